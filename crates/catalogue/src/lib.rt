@@ -1,0 +1,4 @@
+// Catalogues: the trait, and the export book.
+pub mod book;
+pub mod catalogue;
+pub mod fault;

@@ -1,0 +1,5 @@
+// Shared objects below any catalogue: refusals, symbols, and which definition an object offers.
+pub mod name;
+pub mod refusal;
+pub mod row;
+pub mod symbol;

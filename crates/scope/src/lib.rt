@@ -1,0 +1,3 @@
+// Scopes: the trait, and a list of objects without memory of its own to ask for.
+pub mod list;
+pub mod scope;

@@ -1,0 +1,3 @@
+// Lists of at most 64 objects, each a number of the catalogue.
+pub mod reads;
+pub mod table;
