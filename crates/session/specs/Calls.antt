@@ -11,11 +11,12 @@ use Rattle.std.specs.shelf.Lists.{kept-by}
 use Rattle.elf.specs.declared.refusal.Limit.the-variants.{Preloads}
 use Rattle.elf.specs.declared.refusal.Refusal.{Refusal}
 use Rattle.elf.specs.declared.refusal.Refusal.the-variants.{Twice, TooMany, NotThere, OpensUsedUp}
-use Rattle.elf.specs.Names.{among, only-if, somes}
+use Rattle.graph.specs.Graph.{among}
+use Rattle.elf.specs.Names.{only-if, somes}
 use Rattle.elf.specs.Meaning.{Object}
 use Rattle.elf.specs.Refusals.{first-refusal, answer, after}
 use Rattle.scope.specs.Orders.{unknown}
-use Rattle.session.specs.State.{Sheet, State}
+use Rattle.session.specs.State.{Linkage, State}
 use Rattle.session.specs.Walks.{new-list, reached, start-order}
 use Rattle.session.specs.Binding.{bindings-of-all}
 use Rattle.session.specs.Checks.{batch-refusal}
@@ -29,12 +30,12 @@ pub record Outcome : Type 0 where
 abbrev pub outcome : Option Refusal → State → ℕ → State → Outcome
 outcome r was n next = record { answered = answer r n; next = after r was next }
 
--- The sheet with new objects behind the others, started from some.
-abbrev pub load-new : List Object → Sheet → List ℕ → List ℕ → Sheet
+-- The linkage with new objects behind the others, started from some.
+abbrev pub load-new : List Object → Linkage → List ℕ → List ℕ → Linkage
 load-new c s new from =
     record {
       loaded = s .loaded ++ new;
-      started = s .started ++ start-order c (s .loaded) from;
+      started = s .started ++ start-order c new from;
       bindings = s .bindings ++ bindings-of-all c (s .loaded ++ new) new;
     }
 
@@ -53,18 +54,18 @@ preload c s o =
     (record {
       root = s .root;
       preloads = s .preloads ++ (o ∷ []);
-      sheet = s .sheet;
+      linkage = s .linkage;
       counts = s .counts;
       granted = s .granted;
     })
 
 -- The list of a link: the root, the preloads, then needed targets in turn.
 abbrev pub link-list : List Object → State → ℕ → List ℕ
-link-list c s o = new-list c (s .sheet .loaded) (o ∷ s .preloads)
+link-list c s o = new-list c (s .linkage .loaded) (o ∷ s .preloads)
 
 -- A try at linking refuses an unknown root, and a list that fails a check.
 abbrev pub link-refusal : List Object → State → ℕ → Option Refusal
-link-refusal c s o = first-refusal (unknown c o ∷ (batch-refusal c (s .sheet .loaded) (link-list c s o) ∷ []))
+link-refusal c s o = first-refusal (unknown c o ∷ (batch-refusal c (s .linkage .loaded) (link-list c s o) ∷ []))
 
 -- A try at linking loads the list; the preloads start in turn, then the root.
 abbrev pub link : List Object → State → ℕ → Outcome
@@ -73,7 +74,7 @@ link c s o =
     (record {
       root = Some o;
       preloads = s .preloads;
-      sheet = load-new c (s .sheet) (link-list c s o) (s .preloads ++ (o ∷ []));
+      linkage = load-new c (s .linkage) (link-list c s o) (s .preloads ++ (o ∷ []));
       counts = s .counts;
       granted = s .granted;
     })
@@ -84,7 +85,7 @@ count s o = getD (s .counts) o 0
 
 -- The list of an open; it is empty if the object is loaded already.
 abbrev pub open-list : List Object → State → ℕ → List ℕ
-open-list c s o = new-list c (s .sheet .loaded) (o ∷ [])
+open-list c s o = new-list c (s .linkage .loaded) (o ∷ [])
 
 -- Open refuses an unknown object, any after 65,535 granted opens, and, if the object is not loaded, a list that fails
 -- a check.
@@ -93,7 +94,7 @@ open-refusal c s o =
     first-refusal
     (unknown c o
     ∷ (only-if (leb 65535 (s .granted)) (OpensUsedUp o)
-    ∷ (cond (among o (s .sheet .loaded)) None (batch-refusal c (s .sheet .loaded) (open-list c s o)) ∷ [])))
+    ∷ (cond (among o (s .linkage .loaded)) None (batch-refusal c (s .linkage .loaded) (open-list c s o)) ∷ [])))
 
 -- Open counts the object once more, loads what is new and answers how many.
 abbrev pub open-object : List Object → State → ℕ → Outcome
@@ -102,7 +103,7 @@ open-object c s o =
     (record {
       root = s .root;
       preloads = s .preloads;
-      sheet = load-new c (s .sheet) (open-list c s o) (o ∷ []);
+      linkage = load-new c (s .linkage) (open-list c s o) (o ∷ []);
       counts = set (s .counts) o (count s o + 1);
       granted = s .granted + 1;
     })
@@ -113,12 +114,12 @@ open-from k [] = []
 open-from k (zero ∷ ns) = open-from (suc k) ns
 open-from k (suc n ∷ ns) = k ∷ open-from (suc k) ns
 
--- The objects that keep others loaded: the root, the preloads and the open ones.
-abbrev pub keepers : Option ℕ → List ℕ → List ℕ → List ℕ
-keepers root preloads counts = somes (root ∷ []) ++ (preloads ++ open-from 0 counts)
+-- The anchors, which keep what they reach loaded: the root, the preloads and the open objects.
+abbrev pub anchors : Option ℕ → List ℕ → List ℕ → List ℕ
+anchors root preloads counts = somes (root ∷ []) ++ (preloads ++ open-from 0 counts)
 
--- The sheet with only the objects among some.
-abbrev pub kept-on : List ℕ → Sheet → Sheet
+-- The linkage with only the objects among some.
+abbrev pub kept-on : List ℕ → Linkage → Linkage
 kept-on os s =
     record {
       loaded = kept-by (λ o. among o os) (s .loaded);
@@ -135,7 +136,7 @@ close-refusal c s o = first-refusal (unknown c o ∷ (only-if (eqb (count s o) 0
 abbrev pub close-object : List Object → State → ℕ → Outcome
 close-object c s o =
     let counts : List ℕ = set (s .counts) o (count s o - 1) in
-    let sheet : Sheet =
-    kept-on (reached c (s .sheet .bindings) (keepers (s .root) (s .preloads) counts)) (s .sheet) in
-    outcome (close-refusal c s o) s (length (s .sheet .loaded) - length (sheet .loaded))
-    (record { root = s .root; preloads = s .preloads; sheet = sheet; counts = counts; granted = s .granted })
+    let left : Linkage =
+    kept-on (reached c (s .linkage .bindings) (anchors (s .root) (s .preloads) counts)) (s .linkage) in
+    outcome (close-refusal c s o) s (length (s .linkage .loaded) - length (left .loaded))
+    (record { root = s .root; preloads = s .preloads; linkage = left; counts = counts; granted = s .granted })

@@ -2,15 +2,17 @@
 use mathlib.Core.List.{List, [], _∷_, _++_}
 use mathlib.Core.Bool.{Bool, true, false, cond, not, _&&_, _||_}
 use Prim.Native.Nat.{ℕ, _-_}
-use lib.Dec.{eqb, ltb}
+use lib.Dec.{ltb}
 use lib.ListN.{length}
 use Rattle.std.specs.declared.option.Option.{Option}
 use Rattle.std.specs.declared.option.Option.the-variants.{Some, None}
 use Rattle.elf.specs.declared.refusal.Refusal.{Refusal}
 use Rattle.elf.specs.declared.refusal.Refusal.the-variants.{NoTarget, NoVersion, Unbound, ManyBindings}
-use Rattle.elf.specs.Names.{Name, among, named-in, first, first-from, only-if}
+use Rattle.graph.specs.Graph.{among}
+use Rattle.elf.specs.Names.{first, first-from, only-if}
 use Rattle.elf.specs.Meaning.{Object, VersionNeed, object, target}
 use Rattle.elf.specs.Refusals.{first-refusal}
+use Rattle.catalogue.specs.Questions.{provides}
 use Rattle.session.specs.Binding.{taken}
 
 -- Does none answer?
@@ -21,10 +23,6 @@ is-none (Some x) = false
 -- The first needed entry that leads to none.
 abbrev pub no-target : List Object → ℕ → Option Refusal
 no-target c o = first-from 0 (λ k n. only-if (is-none (target c n)) (NoTarget o k)) (object c o .needed)
-
--- An object defines a version, or none at all.
-abbrev pub provides : Object → Name → Bool
-provides o v = eqb (length (o .versions)) 0 || named-in v (o .versions)
 
 -- A version need is met by an object in the order that provides the version.
 abbrev pub is-met : List Object → List ℕ → VersionNeed → Bool

@@ -12,7 +12,7 @@ use Rattle.elf.specs.Names.{Name}
 use Rattle.std.specs.shelf.Maps.{nth}
 use Rattle.elf.specs.Refusals.{row}
 use Rattle.catalogue.specs.Buffers.{write-answer, written-front}
-use Rattle.session.specs.State.{Sheet, Binding}
+use Rattle.session.specs.State.{Linkage, Binding}
 
 -- A line of the report.
 pub data Line : Type 0 where
@@ -35,7 +35,7 @@ binding-line b =
     ]
 
 -- The report's lines.
-abbrev pub lines : Sheet → List Line
+abbrev pub lines : Linkage → List Line
 lines s = map load (s .loaded) ++ (map init (s .started) ++ map binding-line (s .bindings))
 
 -- A space and then a number, or a name.
@@ -72,9 +72,9 @@ abbrev pub line-bytes : List Line → ℕ → List ℕ
 line-bytes ls n = elim (nth ls n) [ None ↦ [] | Some l ↦ render l ]
 
 -- A line call answers the line's length, or refuses a buffer shorter than the line.
-abbrev pub line-answer : Sheet → ℕ → ℕ → Result ℕ Refusal
+abbrev pub line-answer : Linkage → ℕ → ℕ → Result ℕ Refusal
 line-answer s n room = write-answer (line-bytes (lines s) n) room
 
 -- A line call writes the line at the front of the buffer.
-abbrev pub line-buffer : Sheet → ℕ → List ℕ → List ℕ
+abbrev pub line-buffer : Linkage → ℕ → List ℕ → List ℕ
 line-buffer s n buffer = written-front (line-bytes (lines s) n) buffer

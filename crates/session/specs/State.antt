@@ -14,28 +14,28 @@ pub record Binding : Type 0 where
   pub reference : Reference
   pub taken : Option Found
 
--- What is reported: the load order, the start order, and the bindings by load order and symbol.
-pub record Sheet : Type 0 where
+-- What linking brought about: the load order, the start order, and the bindings by load order and symbol.
+pub record Linkage : Type 0 where
   pub loaded : List ℕ
   pub started : List ℕ
   pub bindings : List Binding
 
--- A session: its root, none in set-up; the preloads in the order named; what is reported; for each object the opens
+-- A session: its root, none in set-up; the preloads in the order named; what is linked; for each object the opens
 -- that count; and how many opens were ever granted.
 pub record State : Type 0 where
   pub root : Option ℕ
   pub preloads : List ℕ
-  pub sheet : Sheet
+  pub linkage : Linkage
   pub counts : List ℕ
   pub granted : ℕ
 
 -- Nothing is loaded.
-abbrev pub empty : Sheet
+abbrev pub empty : Linkage
 empty = record { loaded = []; started = []; bindings = [] }
 
 -- A session right after its making.
-abbrev pub made : List Object → State
-made c = record { root = None; preloads = []; sheet = empty; counts = replicate (length c) 0; granted = 0 }
+abbrev pub initial : List Object → State
+initial c = record { root = None; preloads = []; linkage = empty; counts = replicate (length c) 0; granted = 0 }
 
 -- Is the session linked?
 abbrev pub is-linked : State → Bool

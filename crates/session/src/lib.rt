@@ -1,0 +1,2 @@
+// Link sessions over any scope: set-up, linking and reports.
+pub mod table;
