@@ -111,11 +111,8 @@ fn definition(object: &mut Object, fields: &[&[u8]]) -> Option<()> {
     let number = rising(number, object.definitions.last().map(|last| last.number))?;
     let written = decimal(index, LARGEST_NUMBER)?;
     let (hidden, index) = (written >= HIDDEN, written % HIDDEN);
-    let index_fits = if object.versioned {
-        (1..=LARGEST_INDEX).contains(&index)
-    } else {
-        written == 0
-    };
+    let index_fits =
+        if object.versioned { (1..=LARGEST_INDEX).contains(&index) } else { written == 0 };
     let flags = decimal(flags, 3)?;
     let version = optional(version)?;
     // Indices 0 and 1 have no version, all others have one.

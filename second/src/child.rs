@@ -11,20 +11,20 @@ use std::time::{Duration, Instant};
 /// How long the program may take for one input.
 const LONGEST_RUN: Duration = Duration::from_secs(20);
 
-/// What the program printed, at most `most` bytes of it, or how it failed.
+/// What the program printed, at most `most` bytes of it, or in what way it failed.
 pub fn run(program: &Path, input: &Arc<Vec<u8>>, most: usize) -> Result<Vec<u8>, String> {
     let mut child = Command::new(program)
         .stdin(Stdio::piped())
         .stdout(Stdio::piped())
         .stderr(Stdio::null())
         .spawn()
-        .map_err(|error| format!("cannot start {}: {error}", program.display()))?;
+        .map_err(|error| format!("cannot be started: {error}"))?;
     let deadline = Instant::now() + LONGEST_RUN;
     feed(&mut child, Arc::clone(input));
     let printed = collect(&mut child, most).recv_timeout(LONGEST_RUN);
     let status = wait(&mut child, deadline)?;
     let Ok(printed) = printed else { return Err(too_long()) };
-    let printed = printed.map_err(|error| format!("cannot read its output: {error}"))?;
+    let printed = printed.map_err(|error| format!("prints what cannot be read: {error}"))?;
     if !status.success() {
         return Err(format!("ended with {status}, having printed {} bytes", printed.len()));
     }
@@ -67,7 +67,7 @@ fn wait(child: &mut Child, deadline: Instant) -> Result<ExitStatus, String> {
                 let _ = child.wait();
                 return Err(too_long());
             }
-            Err(error) => return Err(format!("cannot wait for it: {error}")),
+            Err(error) => return Err(format!("cannot be waited for: {error}")),
         }
     }
 }

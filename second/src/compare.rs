@@ -13,7 +13,7 @@ use std::thread;
 const FAILURE_FILE: &str = "second-failure.book";
 const THREADS: usize = 2;
 /// How much of an output is shown.
-const SHOWN_BYTES: usize = 1_500;
+const SHOWN_BYTES: usize = 600;
 
 /// An input on which the program does not do what it must.
 struct Difference {
@@ -60,7 +60,7 @@ pub fn compare(program: &str, books: u64, seed: u64) -> Result<(), String> {
     let differences = run.differences.into_inner().expect("no thread panicked");
     // Indices are handed out in order, so the lowest is the same in every run.
     if let Some(first) = differences.iter().min_by_key(|difference| difference.index) {
-        return Err(show(first, program));
+        return Err(show(first, program, seed));
     }
     let tally = run.tally.into_inner().expect("no thread panicked");
     tally.print();
@@ -102,44 +102,48 @@ impl Run<'_> {
 }
 
 /// Keeps the input and tells what was printed on both sides.
-fn show(difference: &Difference, program: &str) -> String {
+fn show(difference: &Difference, program: &str, seed: u64) -> String {
     let kept = match std::fs::write(FAILURE_FILE, difference.input.as_slice()) {
         Ok(()) => format!("the input is in {FAILURE_FILE}"),
         Err(error) => format!("the input could not be written to {FAILURE_FILE}: {error}"),
     };
-    let theirs = match &difference.theirs {
-        Ok(printed) => shortened(printed),
-        Err(failure) => failure.clone(),
+    let (how, theirs) = match &difference.theirs {
+        Ok(printed) => (different_line(&difference.ours, printed), shortened(printed)),
+        Err(failure) => (format!("{program} {failure}"), String::new()),
     };
-    format!(
-        "difference at index {} ({}, {} bytes); {kept}\n--- second link\n{}\n--- {program}\n{}\n\
-         --- first different line: {}\nto see it again:\n  second link < {FAILURE_FILE}\n  \
-         {program} < {FAILURE_FILE}",
-        difference.index,
-        difference.kind.name(),
-        difference.input.len(),
-        shortened(difference.ours.as_bytes()),
-        theirs,
-        different_line(difference),
-    )
+    let index = difference.index;
+    [
+        format!("difference at index {index}: {how}"),
+        format!("kind: {}, {} bytes; {kept}", difference.kind.name(), difference.input.len()),
+        format!("--- second link\n{}", shortened(difference.ours.as_bytes())),
+        format!("--- {program}\n{theirs}"),
+        "to see it again:".to_string(),
+        format!("  second link < {FAILURE_FILE}"),
+        format!("  {program} < {FAILURE_FILE}"),
+        format!("  second compare {program} --seed {seed} --books {}", index + 1),
+    ]
+    .join("\n")
 }
 
 fn shortened(output: &[u8]) -> String {
     let shown = String::from_utf8_lossy(&output[..output.len().min(SHOWN_BYTES)]);
     let rest = output.len().saturating_sub(SHOWN_BYTES);
-    if rest == 0 { shown.into_owned() } else { format!("{shown}\n... and {rest} bytes more") }
+    if rest == 0 {
+        shown.into_owned()
+    } else {
+        format!("{shown}\n... and {rest} bytes more")
+    }
 }
 
 /// The first line in which the outputs differ, counted from 0.
-fn different_line(difference: &Difference) -> String {
-    let Ok(printed) = &difference.theirs else { return "it failed".to_string() };
-    let ours: Vec<&[u8]> = difference.ours.as_bytes().split(|&byte| byte == b'\n').collect();
-    let theirs: Vec<&[u8]> = printed.split(|&byte| byte == b'\n').collect();
+fn different_line(ours: &str, theirs: &[u8]) -> String {
+    let ours: Vec<&[u8]> = ours.as_bytes().split(|&byte| byte == b'\n').collect();
+    let theirs: Vec<&[u8]> = theirs.split(|&byte| byte == b'\n').collect();
     let longer = ours.len().max(theirs.len());
     let place = (0..longer).find(|&place| ours.get(place) != theirs.get(place)).unwrap_or(longer);
     let at = |lines: &[&[u8]]| match lines.get(place) {
         Some(line) => format!("'{}'", String::from_utf8_lossy(line)),
         None => "nothing".to_string(),
     };
-    format!("{place}: {} and {}", at(&ours), at(&theirs))
+    format!("line {place} is {} and not {}", at(&theirs), at(&ours))
 }

@@ -13,8 +13,7 @@ pub fn damaged(rng: &mut Rng, book: Vec<u8>) -> Vec<u8> {
         match rng.below(10) {
             0 | 1 => text[place] ^= 1 << rng.below(8),
             2 => text[place] = rng.byte(),
-            // A digit or letter in place of another often leaves a lawful book.
-            3 | 4 | 5 => text[place] = *rng.pick(b"0123456789abVdefnor \n"),
+            3..=5 => text[place] = like(rng, text[place]),
             6 => text.insert(place, rng.byte()),
             7 => text.insert(place, *rng.pick(b"0123456789ab \n")),
             8 => drop(text.remove(place)),
@@ -22,6 +21,15 @@ pub fn damaged(rng: &mut Rng, book: Vec<u8>) -> Vec<u8> {
         }
     }
     text
+}
+
+/// A digit for a digit and a letter for a letter, which often leaves a lawful book.
+fn like(rng: &mut Rng, byte: u8) -> u8 {
+    match byte {
+        b'0'..=b'9' => *rng.pick(b"0123456789"),
+        b'a'..=b'z' | b'A'..=b'Z' => *rng.pick(b"abVdefnor"),
+        _ => *rng.pick(b" \n.~"),
+    }
 }
 
 /// Words that make a random line look like a book's.
@@ -32,8 +40,15 @@ const PIECES: [&str; 22] = [
 
 /// The shapes of the lines, where # is a random number and a a random name.
 const SHAPES: [&str; 9] = [
-    "object #", "soname a", "needed a", "want a a #", "version a #", "def # a # #", "def # a # # a",
-    "ref # a #", "ref # a # a",
+    "object #",
+    "soname a",
+    "needed a",
+    "want a a #",
+    "version a #",
+    "def # a # #",
+    "def # a # # a",
+    "ref # a #",
+    "ref # a # a",
 ];
 
 /// Random bytes, random printable lines, or lines of random words behind a lawful beginning.
@@ -61,8 +76,7 @@ pub fn bytes(rng: &mut Rng, most: usize) -> Vec<u8> {
 }
 
 pub fn printable_line(rng: &mut Rng) -> Vec<u8> {
-    let mut line: Vec<u8> =
-        (0..rng.below(60)).map(|_| rng.between(0x20, 0x7E) as u8).collect();
+    let mut line: Vec<u8> = (0..rng.below(60)).map(|_| rng.between(0x20, 0x7E) as u8).collect();
     line.push(b'\n');
     line
 }

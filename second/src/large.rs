@@ -15,7 +15,7 @@ pub fn near_limits(rng: &mut Rng) -> Vec<u8> {
         3 => many_versions(rng, MOST_VERSIONS),
         4 => symbols::many_definitions(rng, MOST_SYMBOLS),
         5 => symbols::many_references(rng, MOST_SYMBOLS),
-        6 | 7 | 8 => symbols::shared_references(rng),
+        6..=8 => symbols::shared_references(rng),
         9 => long_names(rng),
         10 => high_numbers(rng),
         _ => high_indices(rng),
@@ -38,7 +38,11 @@ pub fn over_limits(rng: &mut Rng) -> Vec<u8> {
 
 /// The root, or often enough another object.
 fn some_object(rng: &mut Rng, objects: &[Object]) -> usize {
-    if rng.chance(60) { 0 } else { rng.below(objects.len()) }
+    if rng.chance(60) {
+        0
+    } else {
+        rng.below(objects.len())
+    }
 }
 
 fn sonames(objects: &[Object]) -> Vec<String> {
@@ -160,27 +164,30 @@ fn high_numbers(rng: &mut Rng) -> Vec<Object> {
 fn high_indices(rng: &mut Rng) -> Vec<Object> {
     let mut objects = make::small(rng);
     let past = rng.chance(40);
+    let indices: &[u32] = if past { &[0, 1, 255, 256, 257, 32_767] } else { &[1, 2, 254, 255] };
     for object in &mut objects {
-        let versioned = object.versioned;
-        let chosen = object.definitions.iter_mut().filter(|_| versioned);
-        for definition in chosen {
-            if rng.chance(50) {
-                let lawful: &[u32] = &[1, 2, 254, 255, 255];
-                let index = if past { &[0, 1, 255, 256, 257, 32_767][..] } else { lawful };
-                definition.index = *rng.pick(index);
-                definition.hidden = rng.chance(50);
-                let version = definition.version.take().unwrap_or("V1".to_string());
-                definition.version = (definition.index >= 2).then_some(version);
-            }
-        }
         if past && rng.chance(20) {
             let index = *rng.pick(&[0, 1, 256, 511, 32_770]);
             object.versions.push(Version { name: "V1".to_string(), index });
         }
-        for reference in object.references.iter_mut().filter(|r| r.own) {
-            let place = object.definitions.iter().position(|d| d.number == reference.number);
-            *reference = own_reference(&object.definitions[place.expect("own")]);
+        // Without symbol versions only index 0 is lawful, and not even that if hidden.
+        let indices = if object.versioned { indices } else { &[0, 0, 0, 1] };
+        if object.versioned || (past && rng.chance(30)) {
+            object.definitions.iter_mut().for_each(|d| change_index(rng, d, indices));
         }
+        let own = |r: &Reference| object.definition(r.number).map(own_reference);
+        let references = object.references.iter().map(|r| own(r).unwrap_or(r.clone())).collect();
+        object.references = references;
     }
     objects
+}
+
+/// Half of the time takes another index, with a version exactly where one belongs.
+fn change_index(rng: &mut Rng, definition: &mut Definition, indices: &[u32]) {
+    if rng.chance(50) {
+        definition.index = *rng.pick(indices);
+        definition.hidden = rng.chance(50);
+        let version = definition.version.take().unwrap_or("V1".to_string());
+        definition.version = (definition.index >= 2).then_some(version);
+    }
 }

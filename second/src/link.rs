@@ -176,9 +176,7 @@ pub fn choose<'a>(
         return same_name.first().copied();
     }
     if wanted.is_some() {
-        let fits = |d: &&&Definition| {
-            d.version.as_deref() == wanted || (d.index == 1 && !d.hidden)
-        };
+        let fits = |d: &&&Definition| d.version.as_deref() == wanted || (d.index == 1 && !d.hidden);
         return same_name.iter().find(fits).copied();
     }
     // Indices 1 and 2 are the base and the oldest version: what an unversioned user means.

@@ -5,6 +5,7 @@ mod child;
 mod compare;
 mod damage;
 mod edit;
+mod fields;
 mod kinds;
 mod large;
 mod link;

@@ -130,7 +130,7 @@ fn versions(rng: &mut Rng, pools: &Pools) -> Vec<Version> {
 fn definitions(rng: &mut Rng, pools: &Pools, versioned: bool) -> Vec<Definition> {
     let count = rng.below(9);
     // A book with few low indices shows what is offered when there are none.
-    let indices: &[u32] = *rng.pick(&[&[1, 2, 3, 4][..], &[3, 4, 5, 255][..], &[1, 3, 7][..]]);
+    let indices = rng.pick(&[[1, 2, 3, 4], [3, 4, 5, 255], [1, 3, 3, 7]]);
     let hidden = *rng.pick(&[0, 30, 70]);
     let mut number = 0;
     let mut definitions = Vec::new();

@@ -37,7 +37,7 @@ pub fn sized(rng: &mut Rng) -> Vec<u8> {
 }
 
 /// Adds objects that nothing needs until the book has exactly this size.
-fn filled(rng: &mut Rng, mut book: Vec<u8>, size: usize) -> Vec<u8> {
+pub fn filled(rng: &mut Rng, mut book: Vec<u8>, size: usize) -> Vec<u8> {
     while size - book.len() >= OBJECT_LINE.len() + SHORTEST_LINE {
         book.extend_from_slice(OBJECT_LINE);
         let mut lines = 0;
@@ -84,8 +84,16 @@ fn garbage(rng: &mut Rng, size: usize) -> Vec<u8> {
     match rng.below(4) {
         0 => text.resize(size, b'\n'),
         1 => text.resize(size, 0),
-        2 => while text.len() < size { text.extend(damage::bytes(rng, 5_000)) },
-        _ => while text.len() < size { text.extend(damage::printable_line(rng)) },
+        2 => {
+            while text.len() < size {
+                text.extend(damage::bytes(rng, 5_000))
+            }
+        }
+        _ => {
+            while text.len() < size {
+                text.extend(damage::printable_line(rng))
+            }
+        }
     }
     text.truncate(size);
     text

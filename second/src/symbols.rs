@@ -85,7 +85,11 @@ pub fn many_references(rng: &mut Rng, count: usize) -> Vec<Object> {
         // One reference more, but in another object.
         library.references.push(outward(rng, 61, "a".to_string(), true));
     }
-    if rng.chance(50) { vec![many, library] } else { vec![library, many] }
+    if rng.chance(50) {
+        vec![many, library]
+    } else {
+        vec![library, many]
+    }
 }
 
 /// Several loaded objects that have about as many references together as may be bound.
@@ -102,9 +106,9 @@ pub fn shared_references(rng: &mut Rng) -> Vec<Object> {
     rng.shuffle(&mut order);
     objects[0].needed = order.iter().map(|place| format!("s{place}")).collect();
     let (mut left, last) = (total, rng.below(count));
-    for place in 0..count {
+    for (place, object) in objects.iter_mut().enumerate() {
         let share = if place == last { 0 } else { rng.below(left / 2 + 1) };
-        refer(rng, &mut objects[place], share);
+        refer(rng, object, share);
         left -= share;
     }
     refer(rng, &mut objects[last], left);

@@ -9,13 +9,13 @@ const ENDS: [&str; 6] = ["report", "10", "15", "16", "17", "18"];
 /// A run of at least so many inputs has to show everything below.
 const LARGE_RUN: usize = 5_000;
 
-/// The ends that each kind of input must show in a large run.
+/// The ends that each kind of input must show in a large run, in the order of `KINDS`.
 const EXPECTED: [(Kind, &[usize]); 6] = [
     (Kind::Small, &[0, 2, 3, 4]),
     (Kind::Near, &[0, 1, 2, 3, 4, 5]),
     (Kind::Over, &[0, 1]),
     (Kind::Edited, &[0, 1, 2, 3, 4]),
-    (Kind::Damaged, &[0, 1, 2, 3, 4]),
+    (Kind::Damaged, &[0, 1, 2]),
     (Kind::Noise, &[0, 1]),
 ];
 
@@ -107,9 +107,10 @@ impl Tally {
             require(count, 100, format!("reports with {what}"));
         }
         require(self.bad_lines.len(), 50, "different bad lines".to_string());
-        // The small books are made lawful: a bad line in one is a mistake of ours.
         let bad = self.ends[0][1];
-        require(usize::from(bad == 0), 1, format!("small books without a bad line, {bad} have one"));
+        if bad > 0 {
+            missing.push(format!("small books are made lawful, but {bad} have a bad line"));
+        }
         missing
     }
 }

@@ -3,8 +3,12 @@
 use crate::book;
 use crate::kinds;
 use crate::link::{choose, link};
+use crate::make;
 use crate::object::*;
 use crate::report::answer;
+use crate::rng::Rng;
+use crate::sizes;
+use crate::text;
 
 const SAMPLE: &str = "\
 book 1
@@ -158,4 +162,25 @@ fn inputs_depend_on_seed_and_index_alone() {
         assert_eq!(kinds::make(7, index), kinds::make(7, index));
     }
     assert!((0..20).any(|index| kinds::make(7, index) != kinds::make(8, index)));
+}
+
+#[test]
+fn filled_books_are_lawful_and_have_their_size() {
+    for index in 0..40 {
+        let rng = &mut Rng::new(3, index);
+        let small = make::small(rng);
+        let size = LONGEST_INPUT - index as usize;
+        let book = sizes::filled(rng, text::write(&small), size);
+        assert_eq!(book.len(), size);
+        assert!(book::read(&book).is_ok());
+    }
+}
+
+#[test]
+fn small_books_are_lawful_and_read_back_as_written() {
+    for index in 0..500 {
+        let book = text::write(&make::small(&mut Rng::new(4, index)));
+        let objects = book::read(&book).expect("a lawful book");
+        assert_eq!(text::write(&objects), book);
+    }
 }

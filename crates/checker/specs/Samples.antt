@@ -1,9 +1,6 @@
--- Sample links, as one table, and what it says.
+-- Worked samples as one table, and what each row says.
 use mathlib.Core.Path.{_≡_}
 use mathlib.Core.List.{List, [], _∷_, _++_}
-use mathlib.Core.Bool.{cond}
-use lib.Dec.{ltb}
-use lib.ListN.{length}
 use Prim.Native.Nat.{ℕ}
 use lib.Chars.{codes}
 use Rattle.std.specs.declared.option.Option.{Option}
@@ -12,28 +9,12 @@ use Rattle.std.specs.declared.result.Result.{Result}
 use Rattle.std.specs.declared.result.Result.the-variants.{Ok, Err}
 use Rattle.std.specs.shelf.Lists.{All}
 use Rattle.elf.specs.declared.refusal.Refusal.{Refusal}
-use Rattle.elf.specs.declared.refusal.Refusal.the-variants.{BookTooLong}
 use Rattle.elf.specs.Meaning.{Object, object}
-use Rattle.catalogue.specs.Book.{read-book}
 use Rattle.elf.specs.Offers.{offer}
-use Rattle.session.specs.State.{State, made}
+use Rattle.catalogue.specs.Book.{read-book}
+use Rattle.session.specs.State.{State, initial}
 use Rattle.session.specs.Calls.{link, open-object, close-object}
-use Rattle.session.specs.Lines.{Line, lines, render, refusal-line}
-
--- A report's bytes.
-abbrev pub report : List Line → List ℕ
-report [] = []
-report (l ∷ ls) = render l ++ report ls
-
--- What is printed of a catalogue linked from root 0.
-abbrev pub printed : List Object → List ℕ
-printed c = elim (link c (made c) 0 .answered) [ Ok n ↦ report (lines (link c (made c) 0 .next .sheet)) | Err r ↦ refusal-line r ]
-
--- What `linkbook` prints of a book: the report, or the refusal.
-abbrev pub linkbook : List ℕ → List ℕ
-linkbook book =
-    cond (ltb 65536 (length book)) (refusal-line BookTooLong)
-    (elim (read-book book) [ Ok c ↦ printed c | Err r ↦ refusal-line r ])
+use Rattle.checker.specs.Linkbook.{linkbook}
 
 -- Three objects in a row, with a line for object 1's soname and flags of object 2.
 abbrev chain : List ℕ → List ℕ → List ℕ
@@ -52,7 +33,7 @@ symbolic-book = chain (codes "soname can.so\n") (codes "1")
 abbrev nameless-book : List ℕ
 nameless-book = chain [] (codes "0")
 
--- Object 0 defines `read` by some lines and has symbol versions.
+-- Object 0 has symbol versions and defines `read` by some lines.
 abbrev versioned-book : List ℕ → List ℕ
 versioned-book defs = codes "book 1\nobject 2\n" ++ defs
 
@@ -61,29 +42,29 @@ abbrev circle-book : List ℕ
 circle-book = codes "book 1\nobject 0\nsoname a\nneeded b\nobject 0\nsoname b\nneeded a\n"
 
 -- A sample: what is printed of a book; what object 0 offers of `read` where no version is wanted; the start order;
--- how many are new at an open and leave when it is taken back.
+-- how many objects are new at an open, and how many leave when it is taken back.
 pub data Sample : Type 0 where
   prints : List ℕ → List ℕ → Sample
   offers : List ℕ → Option ℕ → Sample
   starts : List ℕ → List ℕ → Sample
   opens : List ℕ → ℕ → ℕ → ℕ → Sample
 
--- The session linked from root 0, and then with an object opened.
-abbrev pub linked : List Object → State
-linked c = link c (made c) 0 .next
+-- The session linked at root 0, and then with an object opened.
+abbrev linked : List Object → State
+linked c = link c (initial c) 0 .next
 
-abbrev pub opened : List Object → ℕ → State
+abbrev opened : List Object → ℕ → State
 opened c o = open-object c (linked c) o .next
 
 -- What is answered of a book's catalogue, or the refusal of the book.
-abbrev pub of-book : {A : Type 0} → List ℕ → (List Object → A) → Result A Refusal
+abbrev of-book : {A : Type 0} → List ℕ → (List Object → A) → Result A Refusal
 of-book b ask = elim (read-book b) [ Ok c ↦ Ok (ask c) | Err r ↦ Err r ]
 
 -- What a sample says.
 abbrev pub Holds : Sample → Type 0
 Holds (prints b text) = linkbook b ≡ text
 Holds (offers b a) = of-book b (λ c. offer (object c 0) (codes "read") None) ≡ Ok a
-Holds (starts b order) = of-book b (λ c. linked c .sheet .started) ≡ Ok order
+Holds (starts b order) = of-book b (λ c. linked c .linkage .started) ≡ Ok order
 Holds (opens b o new left) =
     (of-book b (λ c. open-object c (linked c) o .answered) ≡ Ok (Ok new))
     × (of-book b (λ c. close-object c (opened c o) o .answered) ≡ Ok (Ok left))

@@ -1,1 +1,3 @@
 -- Lemmas of this crate.
+pub mod Counting
+pub mod FirstPick

@@ -3,4 +3,5 @@ pub mod Names
 pub mod Meaning
 pub mod Offers
 pub mod Stored
+pub mod Picks
 pub mod Refusals

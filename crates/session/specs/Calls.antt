@@ -67,17 +67,20 @@ link-list c s o = new-list c (s .linkage .loaded) (o ∷ s .preloads)
 abbrev pub link-refusal : List Object → State → ℕ → Option Refusal
 link-refusal c s o = first-refusal (unknown c o ∷ (batch-refusal c (s .linkage .loaded) (link-list c s o) ∷ []))
 
--- A try at linking loads the list; the preloads start in turn, then the root.
-abbrev pub link : List Object → State → ℕ → Outcome
-link c s o =
-    outcome (link-refusal c s o) s 0
-    (record {
+-- A session linked at a root: the list is loaded; the preloads start in turn, then the root.
+abbrev pub linked-at : List Object → State → ℕ → State
+linked-at c s o =
+    record {
       root = Some o;
       preloads = s .preloads;
       linkage = load-new c (s .linkage) (link-list c s o) (s .preloads ++ (o ∷ []));
       counts = s .counts;
       granted = s .granted;
-    })
+    }
+
+-- A try at linking.
+abbrev pub link : List Object → State → ℕ → Outcome
+link c s o = outcome (link-refusal c s o) s 0 (linked-at c s o)
 
 -- The opens counted for an object.
 abbrev pub count : State → ℕ → ℕ

@@ -1,7 +1,7 @@
 -- The checks on the new objects of a link or an open.
 use mathlib.Core.List.{List, [], _∷_, _++_}
 use mathlib.Core.Bool.{Bool, true, false, cond, not, _&&_, _||_}
-use Prim.Native.Nat.{ℕ, _-_}
+use Prim.Native.Nat.{ℕ, _+_, _-_}
 use lib.Dec.{ltb}
 use lib.ListN.{length}
 use Rattle.std.specs.declared.option.Option.{Option}
@@ -40,15 +40,23 @@ many-bindings c room (o ∷ os) =
     let n : ℕ = length (object c o .references) in
     cond (ltb room n) (Some (ManyBindings o)) (many-bindings c (room - n) os)
 
+-- How many references some objects have.
+abbrev pub references-of-all : List Object → List ℕ → ℕ
+references-of-all c [] = 0
+references-of-all c (o ∷ os) = length (object c o .references) + references-of-all c os
+
 -- The first strong reference that takes nothing.
 abbrev pub unbound : List Object → List ℕ → ℕ → Option Refusal
 unbound c order o =
     first (λ r. only-if (not (r .weak) && is-none (taken c order o r)) (Unbound o (r .number))) (object c o .references)
 
--- The checks in their order, each over the new objects in list order, behind those already loaded.
-abbrev pub batch-refusal : List Object → List ℕ → List ℕ → Option Refusal
-batch-refusal c loaded new =
-    let order : List ℕ = loaded ++ new in
+-- The first refusal of some new objects in an order that holds them: each check, in its turn, over all of them.
+abbrev pub checked : List Object → List ℕ → List ℕ → Option Refusal
+checked c order new =
     first-refusal
     (first (no-target c) new
     ∷ (first (no-version c order) new ∷ (many-bindings c 4096 order ∷ (first (unbound c order) new ∷ []))))
+
+-- The refusal of a link or an open that puts new objects behind the loaded ones.
+abbrev pub batch-refusal : List Object → List ℕ → List ℕ → Option Refusal
+batch-refusal c loaded new = checked c (loaded ++ new) new

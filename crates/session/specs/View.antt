@@ -10,7 +10,7 @@ use Rattle.elf.specs.declared.refusal.Refusal.{Refusal}
 use Rattle.elf.specs.Meaning.{Object, reference-at}
 use Rattle.scope.specs.Listed.{listed}
 use Rattle.scope.specs.Orders.{LawfulOrder}
-use Rattle.session.specs.State.{Binding, State, empty}
+use Rattle.session.specs.State.{Binding, State}
 use Rattle.session.specs.declared.table.Row.{Row}
 use Rattle.session.specs.declared.table.Rows.{Rows}
 use Rattle.session.specs.declared.table.Tables.{Tables}
@@ -34,13 +34,15 @@ view c order t =
       granted = 0;
     }
 
--- What holds of a session in set-up until a try at linking is granted: nothing is linked, and at most four different
--- objects of the catalogue are preloads.
-pub record InSetup (c : List Object) (s : State) : Type 0 where
-  pub root : s .root ≡ None
-  pub linkage : s .linkage ≡ empty
-  pub preloads : LawfulOrder c (s .preloads)
-  pub few : length (s .preloads) ≤ 4
+-- What holds of a session in set-up until a try at linking is granted: nothing is loaded, started or bound, and at
+-- most four different objects of the catalogue are preloads.
+pub record InSetup (c : List Object) (order : List ℕ) (t : Tables) : Type 0 where
+  pub root : t .root ≡ None
+  pub loaded : order ≡ []
+  pub started : listed (t .started) ≡ []
+  pub used : t .bindings .used ≡ 0
+  pub preloads : LawfulOrder c (listed (t .preloads))
+  pub few : length (listed (t .preloads)) ≤ 4
 
 -- The answer of a preload or a try at linking, which grants no number.
 abbrev pub bare : Result (Unit {0}) Refusal → Result ℕ Refusal

@@ -52,4 +52,21 @@ impl ObjectList {
         self.items[self.len] = object;
         self.len += 1;
     }
+
+    // The objects as a slice.
+    pub fn as_slice(&self) -> &[u16]
+        ensures { λ r. ⌜ now r ≡ listed (now (self .entry)) ⌝ }
+    {
+        &self.items[0..self.len]
+    }
+
+    // Puts more objects behind the others.
+    pub fn append(&mut self, more: &[u16])
+        requires { ⌜ length (listed (now self)) + length (now more) ≤ 64 ⌝ }
+        ensures { λ _. ⌜ listed (now (self .exit)) ≡ listed (now (self .entry)) ++ now (more .entry) ⌝ }
+    {
+        for object in more {
+            self.push(*object);
+        }
+    }
 }

@@ -1,0 +1,3 @@
+-- What the programs print, and worked samples.
+pub mod Linkbook
+pub mod Samples
