@@ -5,3 +5,5 @@ pub mod Lawful
 pub mod Book
 pub mod Held
 pub mod Reading
+pub mod Rows
+pub mod Sections

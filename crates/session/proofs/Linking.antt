@@ -1,42 +1,29 @@
 -- A session before and after a try at linking.
-use mathlib.Core.Path.{_≡_, refl, sym, ap, ap₂, subst, _∙_}
+use mathlib.Core.Path.{_≡_, sym, ap, subst, _∙_}
 use mathlib.Core.List.{List, [], _∷_, _++_, map}
-use mathlib.Core.Bool.{false}
 use mathlib.Core.Logic.{inl, inr}
-use Prim.Native.Nat.{ℕ, _+_, _<_, _≤_}
-use native.Mathlib.Omega.{arith}
-use lib.ListN.{length, take, length-append}
-use Rattle.std.specs.declared.option.Option.{Option}
+use Prim.Native.Nat.{ℕ, _<_}
+use lib.ListN.{length, take}
 use Rattle.std.specs.declared.option.Option.the-variants.{Some, None}
-use Rattle.std.specs.declared.result.Result.{Result}
 use Rattle.std.specs.declared.result.Result.the-variants.{Ok, Err}
-use Rattle.graph.specs.Graph.{In, among, Distinct, Below}
-use Rattle.graph.proofs.Members.{in-cases, in-append, in-one, distinct-push, not-in}
+use Rattle.graph.specs.Graph.{Below}
+use Rattle.graph.proofs.Members.{in-cases}
 use Rattle.elf.specs.declared.refusal.Refusal.{Refusal}
 use Rattle.elf.specs.Names.{first, or-else}
 use Rattle.elf.specs.Refusals.{answer, after}
 use Rattle.elf.specs.Meaning.{Object}
 use Rattle.scope.specs.Listed.{listed}
-use Rattle.scope.specs.Orders.{LawfulOrder, unknown}
+use Rattle.scope.specs.Orders.{LawfulOrder}
 use Rattle.session.specs.State.{State, initial}
 use Rattle.session.specs.Walks.{start-order}
 use Rattle.session.specs.Binding.{bindings-of-all}
-use Rattle.session.specs.Checks.{batch-refusal, no-target, no-version, many-bindings, unbound}
+use Rattle.session.specs.Checks.{batch-refusal, no-target, no-version, many-bindings}
 use Rattle.session.specs.Calls.{link, link-list, link-refusal, linked-at, load-new}
 use Rattle.session.specs.View.{view, recorded, binding-of, InSetup}
 use Rattle.session.specs.declared.table.Tables.{Tables}
 use Rattle.session.proofs.Answered.{refused, granted, or-else-none, neither, known}
 
--- one more known object that is not there yet
-pub lawful-push :
-    (c : List Object) (xs : List ℕ) (y : ℕ) → LawfulOrder c xs → y < length c → among y xs ≡ false →
-    LawfulOrder c (xs ++ (y ∷ []))
-lawful-push c xs y h l e =
-    record {
-      once = distinct-push xs y (h .once) (not-in y xs e);
-      known = λ x i. elim (in-append xs i) [ inl j ↦ h .known x j | inr j ↦ subst (λ z. z < length c) (sym (in-one j)) l ];
-    }
-
+-- what a link starts from is known
 pub known-from :
     (c : List Object) (root : ℕ) (ps xs : List ℕ) → root < length c → LawfulOrder c ps → xs ≡ root ∷ ps →
     Below (length c) xs
@@ -92,7 +79,6 @@ module _ (c : List Object) (order list : List ℕ) (t : Tables) (root : ℕ) (he
         let n : batch-refusal c order list ≡ None = granted tt _ tt g in
         let k : link-refusal c (view c order t) root ≡ None = refusal-is ∙ n in
         let loaded : order′ ≡ order ++ list = left ∙ ap (λ e. after e order (order ++ list)) n in
-        let new : list ≡ link-list c (view c order t) root = lists in
         let started : listed (t′ .started) ≡ listed (t .started) ++ start-order c list (listed (t .preloads) ++ (root ∷ [])) =
         s ∙ ap (λ xs. xs ++ start-order c list (listed (t .preloads) ++ (root ∷ []))) (sym (h .started)) in
         let bound : recorded c (t′ .bindings) ≡ recorded c (t .bindings) ++ bindings-of-all c (order ++ list) list =

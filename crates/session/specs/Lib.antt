@@ -6,3 +6,4 @@ pub mod Checks
 pub mod Calls
 pub mod Lines
 pub mod View
+pub mod Visits

@@ -7,6 +7,6 @@ use super::object::BookObject;
 // The objects of a book, which keep the rules of a catalogue.
 #[derive(Drop)]
 pub struct Book<'a> {
-    objects: Vec<BookObject<'a>>,
+    pub(super) objects: Vec<BookObject<'a>>,
     ghost lawful: { ∥ Lawful (objects-of (vec-items objects)) ∥₁ },
 }

@@ -1,12 +1,10 @@
 use mathlib.Core.Path.{sym, subst}
-use mathlib.Core.List.{List, []}
+use mathlib.Core.List.{List}
 use Prim.Native.Nat.{ℕ, _≤_}
 use native.Mathlib.Omega.{arith}
 use lib.ListN.{length}
 use Rattle.elf.specs.Meaning.{Object}
-use Rattle.graph.proofs.Members.{in-none}
-use Rattle.scope.specs.Listed.{listed}
-use Rattle.scope.specs.Orders.{LawfulOrder}
+use Rattle.scope.proofs.Changes.{lawful-none}
 use Rattle.session.specs.View.{InSetup}
 use Rattle.session.proofs.Linking.{view-new}
 use Rattle.session.proofs.setup.Setup.new.Needs as need
@@ -14,14 +12,13 @@ use Rattle.session.proofs.setup.Setup.new.Needs as need
 pub returns : need.returns
 returns g c =
     let os : List Object = g .S·Scope .objects (c .args .scope) in
-    let none : LawfulOrder os [] = record { once = tt; known = λ x i. in-none i } in
     let setup : InSetup os (g .S·Scope .order (c .empty .last .scope)) (c .new .result) =
     record {
       root = c .new .ensures .root;
       loaded = c .empty .ensures .order;
       started = c .new .ensures .started;
       used = c .new .ensures .used;
-      preloads = subst (LawfulOrder os) (sym (c .new .ensures .preloads)) none;
+      preloads = lawful-none os _ (c .new .ensures .preloads);
       few = subst (λ xs. length xs ≤ 4) (sym (c .new .ensures .preloads)) (omega arith);
     } in
     record {

@@ -8,9 +8,7 @@ use borrow.Author.Needs.{needs}
 use Rattle.graph.specs.Graph.{among}
 use Rattle.elf.specs.Meaning.{Object}
 use Rattle.scope.specs.Listed.{listed}
-use Rattle.scope.specs.Orders.{LawfulOrder}
-use Rattle.session.specs.View.{InSetup}
-use Rattle.session.proofs.Linking.{lawful-push}
+use Rattle.scope.proofs.Changes.{lawful-push}
 use Rattle.session.proofs.setup.Setup.preload.Needs as need
 
 pub returns : need.returns
@@ -20,8 +18,6 @@ returns g c =
     let here : c .args .object < length os =
     let e = ap length (c .catalogue .ensures) in omega (arith, e, c .count .ensures, c .if-known-count .left) in
     let new : among (c .args .object) before ≡ false = sym (c .has .ensures) ∙ c .if-has .left in
-    let more : LawfulOrder os (before ++ (c .args .object ∷ [])) =
-    lawful-push os before (c .args .object) (c .pre .preloads) here new in
     let few : length (before ++ (c .args .object ∷ [])) ≤ 4 =
     simp length-append (omega (arith, c .len .ensures .0, c .if-len-ge4 .left)) in
     record {
@@ -33,7 +29,7 @@ returns g c =
         loaded = c .pre .loaded;
         started = c .pre .started;
         used = c .pre .used;
-        preloads = subst (LawfulOrder os) (sym (c .push .ensures)) more;
+        preloads = lawful-push os before _ (c .args .object) (c .pre .preloads) here new (c .push .ensures);
         few = subst (λ xs. length xs ≤ 4) (sym (c .push .ensures)) few;
       };
     }
