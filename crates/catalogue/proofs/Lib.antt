@@ -7,3 +7,5 @@ pub mod Lines
 pub mod Runs
 pub mod Objects
 pub mod BookLawful
+pub mod Nths
+pub mod Targets

@@ -7,3 +7,4 @@ pub mod Held
 pub mod Reading
 pub mod Rows
 pub mod Sections
+pub mod LawfulProp

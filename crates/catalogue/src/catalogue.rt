@@ -14,7 +14,7 @@ use elf::refusal::Refusal;
 pub trait Catalogue {
     ghost meaning: { Self → List Object };
 
-    law kept: { (c : Self) → Lawful (meaning c) };
+    ghost kept: { (c : Self) → Lawful (meaning c) };
 
     fn count(&self) -> usize
         ensures { λ r. ⌜ r ≡ length (meaning (now (self .entry))) ⌝ };
@@ -58,11 +58,21 @@ pub trait Catalogue {
         ensures { λ r. ⌜ r ≡ asked-at (meaning (now (self .entry))) object (λ o. o .references) place (λ x. x .own) ⌝ };
 
     // The name is copied to the front of the buffer; a shorter buffer is refused and left as it was.
-    fn reference_name(&self, object: u16, place: usize, out: &mut [u8]) -> Result<Option<usize>, Refusal>
+    fn reference_name(
+        &self,
+        object: u16,
+        place: usize,
+        out: &mut [u8],
+    ) -> Result<Option<usize>, Refusal>
         ensures answer { λ r. ⌜ r ≡ name-answer (asked-at (meaning (now (self .entry))) object (λ o. o .references) place (λ x. x .name)) (length (now (out .entry))) ⌝ }
         ensures buffer { λ _. ⌜ now (out .exit) ≡ name-buffer (asked-at (meaning (now (self .entry))) object (λ o. o .references) place (λ x. x .name)) (now (out .entry)) ⌝ };
 
-    fn reference_version(&self, object: u16, place: usize, out: &mut [u8]) -> Result<Option<usize>, Refusal>
+    fn reference_version(
+        &self,
+        object: u16,
+        place: usize,
+        out: &mut [u8],
+    ) -> Result<Option<usize>, Refusal>
         ensures answer { λ r. ⌜ r ≡ name-answer (reference-version (meaning (now (self .entry))) object place) (length (now (out .entry))) ⌝ }
         ensures buffer { λ _. ⌜ now (out .exit) ≡ name-buffer (reference-version (meaning (now (self .entry))) object place) (now (out .entry)) ⌝ };
 

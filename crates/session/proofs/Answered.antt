@@ -1,5 +1,5 @@
--- What an answer says of the refusal behind it.
-use mathlib.Core.Path.{_≡_, refl, ap, _∙_}
+-- Refusals of several checks.
+use mathlib.Core.Path.{_≡_, refl, ap}
 use Prim.Native.Nat.{ℕ, _<_}
 use native.Mathlib.Omega.{arith}
 use mathlib.Core.Bool.{false}
@@ -8,24 +8,11 @@ use lib.Dec.{leb}
 use lib.ListN.{length}
 use Rattle.std.specs.declared.option.Option.{Option}
 use Rattle.std.specs.declared.option.Option.the-variants.{Some, None}
-use Rattle.std.specs.declared.result.Result.{Result}
-use Rattle.std.specs.declared.result.Result.the-variants.{Ok, Err}
 use Rattle.std.proofs.shelf.Ways.{tells}
-use Rattle.elf.specs.declared.refusal.Refusal.{Refusal}
 use Rattle.elf.specs.declared.refusal.Refusal.the-variants.{Unknown}
 use Rattle.elf.specs.Names.{or-else, only-if}
 use Rattle.elf.specs.Meaning.{Object}
-use Rattle.elf.specs.Refusals.{answer}
 use Rattle.scope.specs.Orders.{unknown}
-
-module _ {A : Type 0} (x : A) where
-  pub refused : (r : Option Refusal) (e : Refusal) → Err e ≡ answer r x → r ≡ Some e
-  refused None e p = let z : _≡_ {A = ℕ} 0 1 = cc in absurd (omega arith)
-  refused (Some f) e p = cc
-
-  pub granted : (r : Option Refusal) (y : A) → Ok y ≡ answer r x → r ≡ None
-  granted None y p = refl
-  granted (Some f) y p = let z : _≡_ {A = ℕ} 0 1 = cc in absurd (omega arith)
 
 pub or-else-none : {A : Type 0} (x : Option A) → or-else x None ≡ x
 or-else-none None = refl

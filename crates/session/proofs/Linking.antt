@@ -21,7 +21,8 @@ use Rattle.session.specs.Checks.{batch-refusal, no-target, no-version, many-bi
 use Rattle.session.specs.Calls.{link, link-list, link-refusal, linked-at, load-new}
 use Rattle.session.specs.View.{view, recorded, binding-of, InSetup}
 use Rattle.session.specs.declared.table.Tables.{Tables}
-use Rattle.session.proofs.Answered.{refused, granted, or-else-none, neither, known}
+use Rattle.session.proofs.Answered.{or-else-none, neither, known}
+use Rattle.session.proofs.Firsts.{granted, refused}
 
 -- what a link starts from is known
 pub known-from :
@@ -62,7 +63,7 @@ module _ (c : List Object) (order list : List ℕ) (t : Tables) (root : ℕ) (he
     pub link-refused : (e : Refusal) → Err e ≡ answer {A = Unit {0}} (batch-refusal c order list) tt →
         (Err e ≡ link c (view c order t) root .answered) × (view c order′ t ≡ link c (view c order t) root .next)
     link-refused e h =
-        let b : batch-refusal c order list ≡ Some e = refused tt _ e h in
+        let b : batch-refusal c order list ≡ Some e = refused _ e h in
         let k : link-refusal c (view c order t) root ≡ Some e = refusal-is ∙ b in
         let same : order′ ≡ order = left ∙ ap (λ r. after r order (order ++ list)) b in (
           sym (ap (λ r. answer r 0) k),
@@ -76,7 +77,7 @@ module _ (c : List Object) (order list : List ℕ) (t : Tables) (root : ℕ) (he
         recorded c (t′ .bindings) ≡ recorded c (t .bindings) ++ bindings-of-all c order′ list →
         (Ok 0 ≡ link c (view c order t) root .answered) × (view c order′ t′ ≡ link c (view c order t) root .next)
     link-granted t′ h g r p s b =
-        let n : batch-refusal c order list ≡ None = granted tt _ tt g in
+        let n : batch-refusal c order list ≡ None = granted _ tt g in
         let k : link-refusal c (view c order t) root ≡ None = refusal-is ∙ n in
         let loaded : order′ ≡ order ++ list = left ∙ ap (λ e. after e order (order ++ list)) n in
         let started : listed (t′ .started) ≡ listed (t .started) ++ start-order c list (listed (t .preloads) ++ (root ∷ [])) =

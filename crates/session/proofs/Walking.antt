@@ -9,14 +9,11 @@ use lib.ListN.{length, getD, drop, length-append}
 use Rattle.std.proofs.shelf.Lists.{at-drop-more}
 use Rattle.std.proofs.shelf.Tests.{cases-bool, or-from}
 use Rattle.graph.specs.Graph.{among, grow}
-use Rattle.graph.proofs.Members.{among-in, in-none, in-append, in-one, not-in, distinct-push}
+use Rattle.graph.proofs.Members.{among-in}
 use Rattle.graph.proofs.Room.{distinct-length}
 use Rattle.graph.proofs.Loops.{grow-none, grow-seen, grow-new}
 use Rattle.elf.specs.Meaning.{Object}
 use Rattle.scope.specs.Orders.{LawfulOrder}
-
-pub lawful-none : (c : List Object) → LawfulOrder c []
-lawful-none c = record { once = tt; known = λ x i. in-none i }
 
 -- a lawful order has at most all objects of the catalogue
 pub lawful-length : (c : List Object) (xs : List ℕ) → LawfulOrder c xs → length xs ≤ length c
@@ -24,19 +21,6 @@ lawful-length c xs h = distinct-length (length c) xs (h .once) (h .known)
 
 pub lawful-known : (c : List Object) (xs : List ℕ) (o : ℕ) → LawfulOrder c xs → among o xs ≡ true → o < length c
 lawful-known c xs o h e = h .known o (among-in o xs .0 e)
-
--- one more object is put behind it
-module _ (c : List Object) (xs : List ℕ) (y : ℕ) (h : LawfulOrder c xs) (l : y < length c) (e : among y xs ≡ false) where
-  pub lawful-push : LawfulOrder c (xs ++ y ∷ [])
-  lawful-push =
-      record {
-        once = distinct-push xs y (h .once) (not-in y xs e);
-        known = λ x i. elim (in-append xs i) [ inl j ↦ h .known x j | inr j ↦ subst (λ z. z < length c) (sym (in-one j)) l ];
-      }
-
-  -- so there was room for it
-  pub lawful-room : length xs < length c
-  lawful-room = omega (arith, lawful-length c (xs ++ y ∷ []) lawful-push, length-append xs (y ∷ []))
 
 pub grow-one : (old xs : List ℕ) (y : ℕ) → among y old ≡ false → among y xs ≡ false → grow old xs (y ∷ []) ≡ xs ++ y ∷ []
 grow-one old xs y e f =

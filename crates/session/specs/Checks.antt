@@ -33,6 +33,11 @@ abbrev pub no-version : List Object → List ℕ → ℕ → Option Refusal
 no-version c order o =
     first-from 0 (λ k n. only-if (not (n .weak || is-met c order n)) (NoVersion o k)) (object c o .needs)
 
+-- How many references some objects have.
+abbrev pub references-of-all : List Object → List ℕ → ℕ
+references-of-all c [] = 0
+references-of-all c (o ∷ os) = length (object c o .references) + references-of-all c os
+
 -- The first object whose references no longer fit in the room.
 abbrev pub many-bindings : List Object → ℕ → List ℕ → Option Refusal
 many-bindings c room [] = None
@@ -40,23 +45,18 @@ many-bindings c room (o ∷ os) =
     let n : ℕ = length (object c o .references) in
     cond (ltb room n) (Some (ManyBindings o)) (many-bindings c (room - n) os)
 
--- How many references some objects have.
-abbrev pub references-of-all : List Object → List ℕ → ℕ
-references-of-all c [] = 0
-references-of-all c (o ∷ os) = length (object c o .references) + references-of-all c os
-
 -- The first strong reference that takes nothing.
 abbrev pub unbound : List Object → List ℕ → ℕ → Option Refusal
 unbound c order o =
     first (λ r. only-if (not (r .weak) && is-none (taken c order o r)) (Unbound o (r .number))) (object c o .references)
 
--- The first refusal of some new objects in an order that holds them: each check, in its turn, over all of them.
-abbrev pub checked : List Object → List ℕ → List ℕ → Option Refusal
-checked c order new =
+-- The checks in their order, each over the new objects in list order, which stand in the order too.
+abbrev pub check-refusal : List Object → List ℕ → List ℕ → Option Refusal
+check-refusal c order new =
     first-refusal
     (first (no-target c) new
     ∷ (first (no-version c order) new ∷ (many-bindings c 4096 order ∷ (first (unbound c order) new ∷ []))))
 
--- The refusal of a link or an open that puts new objects behind the loaded ones.
+-- The checks on new objects behind those already loaded.
 abbrev pub batch-refusal : List Object → List ℕ → List ℕ → Option Refusal
-batch-refusal c loaded new = checked c (loaded ++ new) new
+batch-refusal c loaded new = check-refusal c (loaded ++ new) new

@@ -7,3 +7,5 @@ pub mod Calls
 pub mod Lines
 pub mod View
 pub mod Visits
+pub mod Wants
+pub mod Texts

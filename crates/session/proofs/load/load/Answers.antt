@@ -9,8 +9,8 @@ use Rattle.graph.specs.Graph.{among}
 use Rattle.elf.specs.Meaning.{Object}
 use Rattle.elf.specs.Refusals.{answer, after}
 use Rattle.scope.specs.Listed.{listed}
-use Rattle.session.specs.Checks.{batch-refusal, checked}
-use Rattle.session.proofs.Answered.{refused}
+use Rattle.session.specs.Checks.{batch-refusal, check-refusal}
+use Rattle.session.proofs.Firsts.{refused}
 use Rattle.session.proofs.Joins.{left-alone}
 use Rattle.session.proofs.load.load.Needs as need
 
@@ -21,8 +21,8 @@ returns-in-Err g c =
     let new : List ℕ = listed (c .args .list .now) in
     let said : Err (c .in-Err .refusal) ≡ answer {A = Unit {0}} (batch-refusal os order new) tt =
     c .in-Err .ensures tt .answer
-    ∙ ap₂ (λ p o. answer {A = Unit {0}} (checked p o new) tt) (c .join-all .ensures .objects) (c .join-all .ensures .order) in
-    let b : batch-refusal os order new ≡ Some (c .in-Err .refusal) = refused tt _ _ said in
+    ∙ ap₂ (λ p o. answer {A = Unit {0}} (check-refusal p o new) tt) (c .join-all .ensures .objects) (c .join-all .ensures .order) in
+    let b : batch-refusal os order new ≡ Some (c .in-Err .refusal) = refused _ _ said in
     let back : g .S·Scope .order (c .leave-all .last .scope) ≡ order =
     c .leave-all .ensures .order
     ∙ ap (kept-by (λ o. not (among o new))) (c .check-all .ensures .order ∙ c .join-all .ensures .order)

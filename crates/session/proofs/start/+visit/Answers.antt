@@ -13,7 +13,8 @@ use Rattle.scope.specs.Listed.{listed}
 use Rattle.scope.specs.Orders.{LawfulOrder}
 use Rattle.session.specs.Visits.{marks}
 use Rattle.session.proofs.Targets.{needed-more}
-use Rattle.session.proofs.Walking.{lawful-known, lawful-length, lawful-push, lawful-room}
+use Rattle.scope.proofs.Changes.{lawful-push, room-left}
+use Rattle.session.proofs.Walking.{lawful-known, lawful-length}
 use Rattle.session.proofs.Starting.{marked, entered-done, skipped-seen, skipped-old, skipped-deep}
 use Rattle.session.proofs.start.+visit.Needs as need
 use Rattle.session.proofs.start.+visit.Needs.{in-Some, in-rest, else-depth-gt0·by·then-depth-gt0·then-has·else-not-has, else-depth-gt0·by·then-depth-gt0·else-has, else-depth-gt0·by·else-depth-gt0}
@@ -22,20 +23,17 @@ pub push-requires : need.push-requires
 push-requires g t c κs =
     let os : List Object = g .S·Scope .objects (c .args .scope .now) in
     let k = g .S·Scope·met .kept (c .args .scope .now) (c .pre .lawful) in
-    let r =
-    lawful-room os (listed (c .args .entered .now)) (c .args .object) (c .pre .marked)
+    room-left os (listed (c .args .entered .now)) (c .args .object) k (c .pre .marked)
     (lawful-known os (listed (c .args .new .now)) (c .args .object) (c .pre .listed) (sym (c .if-has .ensures tt)))
-    (sym (c .if-not-has .ensures tt)) in
-    omega arith
+    (sym (c .if-not-has .ensures tt))
 
 pub loop-place-holds : need.loop-place-holds
 loop-place-holds g t c =
     let os : List Object = g .S·Scope .objects (c .args .scope .now) in (
       refl,
-      subst (λ (l : List ℕ). LawfulOrder os l) (sym (c .push .ensures))
-          (lawful-push os (listed (c .args .entered .now)) (c .args .object) (c .pre .marked)
+      lawful-push os (listed (c .args .entered .now)) _ (c .args .object) (c .pre .marked)
           (lawful-known os (listed (c .args .new .now)) (c .args .object) (c .pre .listed) (sym (c .if-has .ensures tt)))
-          (sym (c .if-not-has .ensures tt))),
+          (sym (c .if-not-has .ensures tt)) (c .push .ensures),
       refl,
     )
 

@@ -11,7 +11,7 @@ use Rattle.scope.specs.Listed.{listed}
 use Rattle.scope.specs.Orders.{LawfulOrder}
 use Rattle.session.specs.Visits.{marks}
 use Rattle.session.specs.Walks.{start-order}
-use Rattle.session.proofs.Walking.{lawful-none}
+use Rattle.scope.proofs.Changes.{lawful-none}
 use Rattle.session.proofs.Starting.{marked}
 use Rattle.session.proofs.start.start_order.Needs as need
 
@@ -21,7 +21,7 @@ loop-object-holds g c =
       ap (visit-all (targets os) (listed (c .args .new .now)) (length os) (c .args .from .now))
           (marked (listed (c .new-entered .result)) (listed (c .new-finished .result)) (record { entered = []; finished = [] })
           (c .new-entered .ensures) (c .new-finished .ensures)),
-      subst (λ (l : List ℕ). LawfulOrder os l) (sym (c .new-entered .ensures)) (lawful-none os),
+      lawful-none os _ (c .new-entered .ensures),
       omega (arith, ap length (c .new-entered .ensures), ap length (c .new-finished .ensures)),
     )
 

@@ -8,10 +8,9 @@ use Rattle.graph.proofs.Spread.{spreads}
 use Rattle.graph.proofs.Loops.{walk-all, turn-place, turn-list}
 use Rattle.elf.specs.Meaning.{Object, targets}
 use Rattle.scope.specs.Listed.{listed}
-use Rattle.scope.specs.Orders.{LawfulOrder}
+use Rattle.scope.proofs.Changes.{lawful-none}
 use Rattle.session.specs.Walks.{new-list}
 use Rattle.session.proofs.Targets.{targets-bounded}
-use Rattle.session.proofs.Walking.{lawful-none}
 use Rattle.session.proofs.walk.new_list.Needs as need
 
 pub add-all-requires : need.add-all-requires
@@ -19,7 +18,7 @@ add-all-requires g c κs =
     let os : List Object = g .S·Scope .objects (c .args .scope .now) in
     record {
       lawful = c .pre .lawful;
-      listed = subst (λ (l : List ℕ). LawfulOrder os l) (sym (c .new-list .ensures)) (lawful-none os);
+      listed = lawful-none os _ (c .new-list .ensures);
       known = c .pre .known;
     }
 

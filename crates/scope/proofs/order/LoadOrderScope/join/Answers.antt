@@ -8,7 +8,7 @@ use Rattle.scope.proofs.order.LoadOrderScope.join.Needs as need
 pub push-requires : need.push-requires
 push-requires g c κs =
     room-left (g .C·Catalogue .meaning (c .args .self .now .catalogue)) (listed (c .args .self .now .objects)) (c .args .object)
-    (g .C·Catalogue·met .kept (c .args .self .now .catalogue)) (c .pre) (omega arith) (sym (c .if-has .ensures tt))
+    (g .C·Catalogue .kept (c .args .self .now .catalogue)) (c .pre) (omega arith) (sym (c .if-has .ensures tt))
 
 pub returns : need.returns
 returns g c =

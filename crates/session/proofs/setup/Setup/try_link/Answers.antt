@@ -15,9 +15,9 @@ use Rattle.session.specs.Checks.{batch-refusal, many-bindings, references-of-a
 use Rattle.session.specs.View.{view, recorded}
 use Rattle.session.specs.Walks.{new-list, start-order}
 use Rattle.session.specs.declared.table.Tables.{Tables}
-use Rattle.session.proofs.Answered.{granted}
+use Rattle.session.proofs.Firsts.{granted}
 use Rattle.session.proofs.Linking.{known-from, link-refused, link-granted, many-fits}
-use Rattle.session.proofs.Rooms.{room-left}
+use Rattle.session.proofs.Rooms.{both-fit}
 use Rattle.session.proofs.setup.Setup.try_link.Needs as need
 
 pub new-list-list-requires : need.new-list-list-requires
@@ -57,8 +57,8 @@ bind-all-requires g c κs =
     let os : List Object = g .S·Scope .objects (c .args .self .now .scope) in
     let order : List ℕ = g .S·Scope .order (c .args .self .now .scope) in
     let list : List ℕ = listed (c .new-list-list .result) in
-    let n : batch-refusal os order list ≡ None = granted tt _ _ (c .in-Continue-load .ensures tt .answer) in
-    let few : references-of-all os order + references-of-all os list ≤ 4096 = room-left os order list (many-fits os order list n) in
+    let n : batch-refusal os order list ≡ None = granted _ _ (c .in-Continue-load .ensures tt .answer) in
+    let few : references-of-all os order + references-of-all os list ≤ 4096 = both-fit os order list (many-fits os order list n) in
     let same : references-of-all (g .S·Scope .objects (c .load .last .scope)) list ≡ references-of-all os list =
     ap (λ cs. references-of-all cs list) (c .load .ensures .objects) in
     record { lawful = c .load .ensures .lawful; room = omega (arith, few, same, c .pre .setup .used) }

@@ -1,0 +1,6 @@
+use mathlib.Core.List.{append-assoc}
+use native.Mathlib.Omega.{arith}
+use Rattle.session.proofs.line.taken_line.Needs as need
+
+pub returns : need.returns
+returns c = grind (arith, append-assoc)
