@@ -1,4 +1,0 @@
-use Rattle.session.proofs.checks.check_all.Needs as need
-
-pub returns : need.returns
-returns g c = ?
