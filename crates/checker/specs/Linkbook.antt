@@ -23,15 +23,29 @@ report (l ∷ ls) = render l ++ report ls
 abbrev pub read-input : List ℕ → Result (List Object) Refusal
 read-input book = cond (ltb 65536 (length book)) (Err BookTooLong) (read-book book)
 
+-- A text that a call granted, or the call's refusal.
+abbrev pub told : Result ℕ Refusal → List ℕ → Result (List ℕ) Refusal
+told (Ok n) text = Ok text
+told (Err r) text = Err r
+
 -- The report of a catalogue linked at object 0, or the refusal.
 abbrev pub report-of : List Object → Result (List ℕ) Refusal
-report-of c =
-    elim (link c (initial c) 0 .answered) [ Ok n ↦ Ok (report (lines (link c (initial c) 0 .next .linkage))) | Err r ↦ Err r ]
+report-of c = told (link c (initial c) 0 .answered) (report (lines (link c (initial c) 0 .next .linkage)))
+
+-- The report of what was read, or the refusal.
+abbrev pub reported : Result (List Object) Refusal → Result (List ℕ) Refusal
+reported (Ok c) = report-of c
+reported (Err r) = Err r
 
 -- The report of a book, or the refusal.
 abbrev pub book-report : List ℕ → Result (List ℕ) Refusal
-book-report book = elim (read-input book) [ Ok c ↦ report-of c | Err r ↦ Err r ]
+book-report book = reported (read-input book)
+
+-- A report, or the line of a refusal.
+abbrev pub printed : Result (List ℕ) Refusal → List ℕ
+printed (Ok text) = text
+printed (Err r) = refusal-line r
 
 -- What is printed: the report, or the one refusal line.
 abbrev pub linkbook : List ℕ → List ℕ
-linkbook book = elim (book-report book) [ Ok text ↦ text | Err r ↦ refusal-line r ]
+linkbook book = printed (book-report book)

@@ -2,6 +2,7 @@
 ghost use mathlib.Core.Path.{_≡_};
 ghost use Rattle.std.specs.Of.Vec.{vec-items};
 ghost use Rattle.std.specs.Vec.{made};
+ghost use Rattle.std.specs.declared.result.Result.the-variants.{Ok};
 ghost use Rattle.catalogue.specs.Reading.{Reads};
 ghost use Rattle.session.specs.Lines.{lines};
 ghost use Rattle.session.specs.View.{view};
