@@ -1,5 +1,5 @@
 -- What a book admits is a lawful catalogue.
-use mathlib.Core.Path.{_≡_, refl, sym, ap, subst, _∙_}
+use mathlib.Core.Path.{_≡_, refl, sym, ap, subst}
 use mathlib.Core.List.{List, [], _∷_, _++_, map}
 use mathlib.Core.Bool.{Bool, true, false, not, cond, _&&_, _||_}
 use Prim.Native.Nat.{ℕ, zero, suc, _+_, _-_, _%_, _≤_, _<_}
@@ -20,15 +20,19 @@ use Rattle.std.proofs.shelf.Tests.{and-parts, false≢true, leb-true, ltb-true}
 use Rattle.elf.specs.declared.refusal.Refusal.{Refusal}
 use Rattle.elf.specs.declared.refusal.Refusal.the-variants.{BookTooLong, BadLine}
 use Rattle.elf.specs.Names.{Name, lawful, only-if}
-use Rattle.elf.specs.Meaning.{Definition, Reference, VersionNeed, Object, numbered}
-use Rattle.catalogue.specs.Lawful.{LawfulName, LawfulIfTold, LawfulDefinition, LawfulReference, LawfulObject, Lawful, Rising, index-fits, version-fits, agrees}
-use Rattle.catalogue.specs.Book.{Fields, field, is-row, is-digits, is-number, number-at, value, has-flag, run, any, last, name-row, want-row, version-row, new-index, def-row, def-fits, ref-row, ref-fits, object-body, is-object, read-objects, read-lines, begins, first-line, lines-of, split, read-book}
+use Rattle.elf.specs.Meaning.{Definition, Reference, VersionNeed, Object}
+use Rattle.catalogue.specs.Lawful.{LawfulName, LawfulIfTold, LawfulDefinition, LawfulReference, LawfulObject, Lawful}
+use Rattle.catalogue.specs.Lawful.{Rising, version-fits}
+use Rattle.catalogue.specs.Book.{Fields, field, is-row, is-digits, is-number, number-at, value, has-flag, run, any, last}
+use Rattle.catalogue.specs.Book.{name-row, want-row, version-row, new-index, def-row, def-fits, ref-row, ref-fits}
+use Rattle.catalogue.specs.Book.{object-body, is-object, read-objects, read-lines, begins, first-line, lines-of, split, read-book}
 use Rattle.catalogue.proofs.Runs.{only-if-some}
 
 module _ {A : Type 0} (reads : Fields → Option A) (fits : List A → A → Bool) where
   -- What every further row keeps holds of a run's rows.
   run-keeps : (Q : List A → Type 0)
-      → ((before : List A) (l : Fields) (x : A) → Q before → reads l ≡ Some x → fits before x ≡ true → Q (before ++ (x ∷ [])))
+      → ((before : List A) (l : Fields) (x : A) → Q before → reads l ≡ Some x → fits before x ≡ true
+      → Q (before ++ (x ∷ [])))
       → (k : ℕ) (before : List A) (ls : List Fields) → Q before → Q (run k reads fits before ls .0)
   run-keeps Q step zero before ls q = q
   run-keeps Q step (suc k) before [] q = q
@@ -67,8 +71,10 @@ module _ {A : Type 0} (reads : Fields → Option A) (fits : List A → A → Boo
   -- What holds of each row that is read and fits holds of all, of which there are few.
   run-all : (P : A → Type 0) → ((before : List A) (l : Fields) (x : A) → reads l ≡ Some x → fits before x ≡ true → P x)
       → (k : ℕ) (ls : List Fields) → (length (run k reads fits [] ls .0) ≤ k) × All P (run k reads fits [] ls .0)
-  run-all P each k ls =
-      (omega (arith, run-few k [] ls), run-keeps (All P) (λ before l x q r f. all-push P before x q (each before l x r f)) k [] ls tt)
+  run-all P each k ls = (
+    omega (arith, run-few k [] ls),
+    run-keeps (All P) (λ before l x q r f. all-push P before x q (each before l x r f)) k [] ls tt,
+  )
 
 -- The last number, or the one below.
 last-from : ℕ → List ℕ → ℕ
@@ -86,7 +92,8 @@ last-is-from [] = refl
 last-is-from (n ∷ ns) = last-is n ns
 
 -- One more number above the last.
-rising-push : (low : ℕ) (ns : List ℕ) (n : ℕ) → Rising low ns → last-from low ns < n → n ≤ 65535 → Rising low (ns ++ (n ∷ []))
+rising-push : (low : ℕ) (ns : List ℕ) (n : ℕ) → Rising low ns → last-from low ns < n → n ≤ 65535
+    → Rising low (ns ++ (n ∷ []))
 unfolding last-from
 rising-push low [] n r h m = (h, m, tt)
 rising-push low (k ∷ ns) n r h m = (r .0, r .1, rising-push k ns n (r .2) h m)
@@ -94,7 +101,7 @@ rising-push low (k ∷ ns) n r h m = (r .0, r .1, rising-push k ns n (r .2) h m)
 -- The numbers of a run rise where those that fit are above the last.
 run-rises : {A : Type 0} (reads : Fields → Option A) (fits : List A → A → Bool) (num : A → ℕ)
     → ((before : List A) (l : Fields) (x : A) → reads l ≡ Some x → fits before x ≡ true
-      → (last (map num before) < num x) × (num x ≤ 65535))
+    → (last (map num before) < num x) × (num x ≤ 65535))
     → (k : ℕ) (ls : List Fields) → Rising 0 (map num (run k reads fits [] ls .0))
 run-rises {A} reads fits num each k ls = run-keeps reads fits (λ xs. Rising 0 (map num xs)) step k [] ls tt
   where
@@ -199,13 +206,16 @@ object-lawful flags ls =
     let versions : List (Name × ℕ) × List Fields = run 64 version-row new-index [] (needs .1) in
     let defs : List Definition × List Fields = run 4096 def-row (def-fits (has-flag 2 flags)) [] (versions .1) in
     let named = run-all version-row new-index (λ v. LawfulName (v .0)) (λ before l v e f. version-lawful l v e) 64 (needs .1) in
+    let names = λ (word : Name). run-all (name-row word) any LawfulName (λ before l n e f. name-lawful word l n e) in
     record {
-      soname = first-lawful (sonames .0) (run-all (name-row (codes "soname")) any LawfulName (λ before l n e f. name-lawful _ l n e) 1 ls .1);
-      needed = run-all (name-row (codes "needed")) any LawfulName (λ before l n e f. name-lawful _ l n e) 32 (sonames .1);
+      soname = first-lawful (sonames .0) (names (codes "soname") 1 ls .1);
+      needed = names (codes "needed") 32 (sonames .1);
       needs = run-all want-row any _ (λ before l n e f. want-lawful l n e) 64 (needed .1);
-      versions = (omega (arith, length-map (versions .0) (λ v. v .0), named .0), all-map LawfulName (λ v. v .0) (versions .0) (named .1));
+      versions =
+          (omega (arith, length-map (versions .0) (λ v. v .0), named .0), all-map LawfulName (λ v. v .0) (versions .0) (named .1));
       definitions = run-all def-row (def-fits (has-flag 2 flags)) (LawfulDefinition o)
-          (λ before l d e f. let r = definition-read l d e in (r .name, r .version, and-parts _ _ f .1, r .fits)) 4096 (versions .1);
+          (λ before l d e f. let r = definition-read l d e in (r .name, r .version, and-parts _ _ f .1, r .fits)) 4096
+          (versions .1);
       references = run-all ref-row (ref-fits (defs .0)) (LawfulReference o)
           (λ before l x e f. let r = reference-read l x e in (r .name, r .version, and-parts _ _ f .1)) 4096 (defs .1);
       definitions-rise = run-rises def-row (def-fits (has-flag 2 flags)) (λ d. d .number)
@@ -244,7 +254,8 @@ lines-lawful ls c e = go (leb 1 (length os) && eqb (length (read-objects 64 ls .
     bad : Refusal
     bad = BadLine (1 + (length ls - length (read-objects 64 ls .1)))
 
-    go : (b : Bool) → (leb 1 (length os) && eqb (length (read-objects 64 ls .1)) 0) ≡ b → cond b (Ok os) (Err bad) ≡ Ok c → Lawful c
+    go : (b : Bool) → (leb 1 (length os) && eqb (length (read-objects 64 ls .1)) 0) ≡ b → cond b (Ok os) (Err bad) ≡ Ok c
+        → Lawful c
     go true t p =
         let q : os ≡ c = cc in
         let h = objects-lawful 64 ls in

@@ -4,7 +4,7 @@ use mathlib.Core.List.{List, [], _∷_}
 use Prim.Native.Nat.{ℕ, zero, suc, _+_, _≤_, _<_}
 use native.Mathlib.Omega.{arith}
 use lib.Dec.{eqb, leb}
-use lib.ListN.{length, getD}
+use lib.ListN.{length, getD, drop}
 use mathlib.Core.Logic.{⊎-elim}
 use Rattle.std.proofs.shelf.Tests.{cases-eq, eq-eqb, ne-eqb, le-leb, lt-leb}
 use Rattle.elf.specs.Names.{Name}
@@ -73,3 +73,9 @@ end-last ps k h =
     ⊎-elim (λ e. eq-eqb _ 0 e ∙ sym (le-leb (length (lines-of ps)) k (omega (arith, lines-ended ps k h e))))
     (λ e. ne-eqb _ 0 e ∙ sym (lt-leb (length (lines-of ps)) k (omega (arith, lines-open ps k h (omega arith)))))
     (cases-eq (length (getD ps k [])) 0)
+
+-- The first of the lines that are left.
+pub first-left : (ls : List Fields) (k : ℕ) → getD (drop k ls) 0 [] ≡ getD ls k []
+first-left ls zero = refl
+first-left [] (suc k) = refl
+first-left (l ∷ ls) (suc k) = first-left ls k

@@ -1,8 +1,8 @@
 -- Objects one after another.
-use mathlib.Core.Path.{_≡_, refl, sym, ap, subst, _∙_}
-use mathlib.Core.List.{List, [], _∷_, _++_, map, append-assoc, append-nil}
-use mathlib.Core.Bool.{Bool, true, false, cond, _&&_}
-use mathlib.Core.Logic.{_⊎_, inl, inr, ⊎-elim}
+use mathlib.Core.Path.{_≡_, refl, sym, ap, _∙_}
+use mathlib.Core.List.{List, [], _∷_, _++_, append-assoc, append-nil}
+use mathlib.Core.Bool.{Bool, true, false, _&&_}
+use mathlib.Core.Logic.{_⊎_, ⊎-elim}
 use Prim.Native.Nat.{ℕ, zero, suc, _+_, _-_, _/_, _%_, _≤_, _<_}
 use native.Mathlib.Omega.{arith}
 use denote.Ref.{RefT, now}
@@ -16,18 +16,22 @@ use Rattle.std.specs.declared.option.Option.the-variants.{Some, None}
 use Rattle.std.specs.declared.result.Result.the-variants.{Ok, Err}
 use Rattle.std.specs.shelf.Maps.{nth}
 use Rattle.std.proofs.shelf.Lists.{drop-more, getD-past, length-push, length-drop}
-use Rattle.std.proofs.shelf.Tests.{leb-true, cases-lt, cond-true, cond-false, false≢true, and-from, and-left, and-right, le-leb, lt-leb, le-ltb, eq-eqb, ne-eqb}
+use Rattle.std.proofs.shelf.Tests.{cases-lt, cond-true, cond-false, false≢true, and-from, and-left, and-right}
+use Rattle.std.proofs.shelf.Tests.{leb-true, le-leb, lt-leb, le-ltb, eq-eqb, ne-eqb}
 use Rattle.std.proofs.shelf.Ways.{tells}
 use Rattle.elf.specs.declared.refusal.Refusal.the-variants.{BadLine}
 use Rattle.elf.specs.Names.{Name, bytes-of, only-if}
 use Rattle.elf.specs.Meaning.{Definition, Reference, VersionNeed, Object}
-use Rattle.catalogue.specs.Book.{Fields, any, name-row, want-row, version-row, new-index, def-row, def-fits, ref-row, ref-fits, has-flag, number-at, is-object, object-body, read-objects, read-lines, begins, first-line, split, lines-of, read-book}
+use Rattle.catalogue.specs.Book.{Fields, any, name-row, want-row, def-row, def-fits, ref-row, ref-fits, has-flag, number-at}
+use Rattle.catalogue.specs.Book.{is-object, object-body, read-objects, read-lines, begins, first-line, split, lines-of, read-book}
 use Rattle.catalogue.specs.Held.{names-of}
 use Rattle.catalogue.specs.Sections.{Section, Versions, ObjectAt, ObjectsIn, lines-in}
+use Rattle.catalogue.proofs.Lines.{first-left}
 use Rattle.catalogue.proofs.Runs.{only-if-some, only-if-none}
 
 -- The first name of some, if there is one.
-pub first-name : (xs : List (RefT (List ℕ))) (r : Option (RefT (RefT (List ℕ)))) → Item xs 0 0 r → nth (names-of xs) 0 ≡ bytes-of (mapped now r)
+pub first-name : (xs : List (RefT (List ℕ))) (r : Option (RefT (RefT (List ℕ)))) → Item xs 0 0 r
+    → nth (names-of xs) 0 ≡ bytes-of (mapped now r)
 first-name [] None i = refl
 first-name [] (Some y) i = absurd (omega (arith, i .3 .0))
 first-name (x ∷ xs) None i = absurd (omega (arith, i .3))
@@ -49,15 +53,15 @@ pub object-made : (flags : ℕ) (ls : List Fields) (from a b c d e f : ℕ) (sym
     → Section 4096 def-row (def-fits (has-flag 2 flags)) ls d defs e
     → Section 4096 ref-row (ref-fits defs) ls e refs f
     → ObjectAt flags ls from (record {
-          symbolic = symbolic;
-          versioned = has-flag 2 flags;
-          soname = soname;
-          needed = needed;
-          needs = needs;
-          versions = versions;
-          definitions = defs;
-          references = refs;
-        }) f
+      symbolic = symbolic;
+      versioned = has-flag 2 flags;
+      soname = soname;
+      needed = needed;
+      needs = needs;
+      versions = versions;
+      definitions = defs;
+      references = refs;
+    }) f
 object-made flags ls from a b c d e f symbolic soname sonames needed needs versions defs refs p q s₁ s₂ s₃ s₄ s₅ s₆ =
     record {
       is-body =
@@ -67,9 +71,12 @@ object-made flags ls from a b c d e f symbolic soname sonames needed needs versi
     }
 
 -- An object stands first, or none does.
-objects-more : (k : ℕ) (l : Fields) (ls rest : List Fields) (o : Object) → is-object l ≡ true → object-body (number-at l 1) ls ≡ (o, rest)
+objects-more : (k : ℕ) (l : Fields) (ls rest : List Fields) (o : Object) → is-object l ≡ true
+    → object-body (number-at l 1) ls ≡ (o, rest)
     → read-objects (suc k) (l ∷ ls) ≡ (o ∷ read-objects k rest .0, read-objects k rest .1)
-objects-more k l ls rest o t e = cond-true (is-object l) _ _ t ∙ ap (λ (b : Object × List Fields). (b .0 ∷ read-objects k (b .1) .0, read-objects k (b .1) .1)) e
+objects-more k l ls rest o t e =
+    cond-true (is-object l) _ _ t
+    ∙ ap (λ (b : Object × List Fields). (b .0 ∷ read-objects k (b .1) .0, read-objects k (b .1) .1)) e
 
 objects-end : (k : ℕ) (ls : List Fields) → is-object (getD ls 0 []) ≡ false → read-objects k ls ≡ ([], ls)
 objects-end zero ls f = refl
@@ -83,7 +90,8 @@ object-told l fields n f e =
     let p = only-if-some (is-object fields) (number-at fields 1) n (sym e) in
     (ap is-object (sym f) ∙ p .0, sym (p .1) ∙ ap (λ (g : Fields). number-at g 1) f)
 
-pub object-untold : (l fields : Fields) → fields ≡ l → None ≡ only-if (is-object fields) (number-at fields 1) → is-object l ≡ false
+pub object-untold : (l fields : Fields) → fields ≡ l → None ≡ only-if (is-object fields) (number-at fields 1)
+    → is-object l ≡ false
 object-untold l fields f e = ap is-object (sym f) ∙ only-if-none (is-object fields) (number-at fields 1) (sym e)
 
 -- The objects so far, and what is left to read.
@@ -92,9 +100,6 @@ pub record Gathered (ls : List Fields) (os : List Object) (next : ℕ) : Type 0 
   pub within : next ≤ length ls
   pub left :
       (os ++ read-objects (64 - length os) (drop next ls) .0, read-objects (64 - length os) (drop next ls) .1) ≡ read-objects 64 ls
-
-pub gathered-none : (ls : List Fields) → Gathered ls [] 0
-gathered-none ls = record { few = omega arith; within = omega arith; left = refl }
 
 -- An `object` line stands within the lines.
 pub object-within : (ls : List Fields) (next : ℕ) → is-object (getD ls next []) ≡ true → next < length ls
@@ -147,17 +152,13 @@ gathered-all ls os next g e =
       within = g .within;
     }
 
-pub gathered-ends : (ls : List Fields) (os : List Object) (next : ℕ) → Gathered ls os next → is-object (getD ls next []) ≡ false
-    → ObjectsIn ls os next
+pub gathered-ends : (ls : List Fields) (os : List Object) (next : ℕ) → Gathered ls os next
+    → is-object (getD ls next []) ≡ false → ObjectsIn ls os next
 gathered-ends ls os next g f =
-    gathered-all ls os next g (objects-end (64 - length os) (drop next ls) (ap is-object (first ls next) ∙ f))
-  where
-    first : (ls : List Fields) (n : ℕ) → getD (drop n ls) 0 [] ≡ getD ls n []
-    first ls zero = refl
-    first [] (suc n) = refl
-    first (l ∷ ls) (suc n) = first ls n
+    gathered-all ls os next g (objects-end (64 - length os) (drop next ls) (ap is-object (first-left ls next) ∙ f))
 
-pub gathered-full : (ls : List Fields) (os : List Object) (next : ℕ) → Gathered ls os next → 64 ≤ length os → ObjectsIn ls os next
+pub gathered-full : (ls : List Fields) (os : List Object) (next : ℕ) → Gathered ls os next → 64 ≤ length os
+    → ObjectsIn ls os next
 gathered-full ls os next g h = gathered-all ls os next g (ap (λ (k : ℕ). read-objects k (drop next ls)) z)
   where
     z : 64 - length os ≡ 0
@@ -173,8 +174,8 @@ lines-admitted ls os next r h k =
     rw (r .are-read) (cond-true _ _ _ t)
 
 -- Else the line behind the last object is refused.
-lines-refused : (ls : List Fields) (os : List Object) (next : ℕ) → ObjectsIn ls os next → (length os ≡ 0) ⊎ (next < length ls)
-    → read-lines ls ≡ Err (BadLine (next + 1))
+lines-refused : (ls : List Fields) (os : List Object) (next : ℕ) → ObjectsIn ls os next
+    → (length os ≡ 0) ⊎ (next < length ls) → read-lines ls ≡ Err (BadLine (next + 1))
 lines-refused ls os next r h =
     let line : 1 + (length ls - length (drop next ls)) ≡ next + 1 = omega (arith, length-drop next ls, r .within) in
     let t : (leb 1 (length os) && eqb (length (drop next ls)) 0) ≡ false =
@@ -202,12 +203,13 @@ book-begun bytes rest parts stored h e p s =
 
 -- A book is admitted with its objects, or refused behind the last.
 module _ (bytes rest : List ℕ) (parts stored : List (RefT (List ℕ))) (os : List Object) (next : ℕ)
-  (short : length bytes ≤ 1048576) (begun : Some rest ≡ only-if (begins first-line bytes) (drop 7 bytes))
-  (split-up : names-of parts ≡ split 10 rest) (lent : stored ≡ parts) (read : ObjectsIn (lines-in stored) os next) where
+    (short : length bytes ≤ 1048576) (begun : Some rest ≡ only-if (begins first-line bytes) (drop 7 bytes))
+    (split-up : names-of parts ≡ split 10 rest) (lent : stored ≡ parts) (read : ObjectsIn (lines-in stored) os next) where
   pub book-admitted : false ≡ eqb (length os) 0 → true ≡ leb (length (lines-in stored)) next → read-book bytes ≡ Ok os
   book-admitted some end =
       book-begun bytes rest parts stored short begun split-up lent
-      ∙ lines-admitted (lines-in stored) os next read (grind (arith, tells, some)) (leb-true (length (lines-in stored)) next (sym end))
+      ∙ lines-admitted (lines-in stored) os next read (grind (arith, tells, some))
+      (leb-true (length (lines-in stored)) next (sym end))
 
   pub book-refused : (length os ≡ 0) ⊎ (next < length (lines-in stored)) → read-book bytes ≡ Err (BadLine (next + 1))
   book-refused why =

@@ -1,7 +1,8 @@
 -- Runs of lines that a rule reads, line by line.
 use mathlib.Core.Path.{_≡_, refl, sym, ap, ap₂, subst, _∙_}
 use mathlib.Core.List.{List, [], _∷_, _++_, map}
-use mathlib.Core.Bool.{Bool, true, false, cond}
+use mathlib.Core.Bool.{Bool, true, false, cond, not}
+use mathlib.Core.Logic.{⊎-elim}
 use Prim.Native.Nat.{ℕ, zero, suc, _+_, _-_, _≤_, _<_}
 use native.Mathlib.Omega.{arith}
 use lib.ListN.{length, getD, drop}
@@ -10,10 +11,11 @@ use Rattle.std.specs.declared.option.Option.{Option}
 use Rattle.std.specs.declared.option.Option.the-variants.{Some, None}
 use Rattle.std.proofs.shelf.Lists.{drop-more, getD-past, length-push}
 use Rattle.std.proofs.shelf.Tests.{cases-lt, false≢true, true≢false}
-use mathlib.Core.Logic.{⊎-elim}
-use Rattle.elf.specs.Names.{and-then, only-if}
-use Rattle.catalogue.specs.Book.{Fields, run}
+use Rattle.graph.specs.Graph.{among}
+use Rattle.elf.specs.Names.{Name, and-then, only-if}
+use Rattle.catalogue.specs.Book.{Fields, run, version-row, new-index}
 use Rattle.catalogue.specs.Sections.{next-row, Section}
+use Rattle.catalogue.proofs.Lines.{first-left}
 
 -- An answer under a test was given, and the test holds.
 pub only-if-some : {A : Type 0} (b : Bool) (x y : A) → only-if b x ≡ Some y → (b ≡ true) × (x ≡ y)
@@ -21,7 +23,7 @@ only-if-some true x y e = (refl, cc)
 only-if-some false x y e = absurd (false≢true (ap isSome e))
 
 -- The row that was read, and fits.
-pub read-and-fits : {A : Type 0} (o : Option A) (test : A → Bool) (x : A)
+read-and-fits : {A : Type 0} (o : Option A) (test : A → Bool) (x : A)
     → and-then o (λ y. only-if (test y) y) ≡ Some x → (o ≡ Some x) × (test x ≡ true)
 read-and-fits None test x e = absurd (false≢true (ap isSome e))
 read-and-fits {A} (Some y) test x e =
@@ -35,8 +37,8 @@ only-if-none false x e = refl
 
 module _ {A : Type 0} (reads : Fields → Option A) (fits : List A → A → Bool) where
   -- What a line's row is, at what is stored of the rows before and of the fields.
-  pub row-at : {X : Type 0} (meaning : X → A) (rows before : List X) (l fields : Fields) (o : Option A) → before ≡ rows → fields ≡ l
-      → o ≡ next-row reads fits (map meaning before) fields → next-row reads fits (map meaning rows) l ≡ o
+  pub row-at : {X : Type 0} (meaning : X → A) (rows before : List X) (l fields : Fields) (o : Option A)
+      → before ≡ rows → fields ≡ l → o ≡ next-row reads fits (map meaning before) fields → next-row reads fits (map meaning rows) l ≡ o
   row-at {X} meaning rows before l fields o p q e =
       sym (e ∙ ap₂ (λ (xs : List X) (f : Fields). next-row reads fits (map meaning xs) f) p q)
 
@@ -45,7 +47,7 @@ module _ {A : Type 0} (reads : Fields → Option A) (fits : List A → A → Boo
   row-none before l e = ap (λ (o : Option A). and-then o (λ x. only-if (fits before x) x)) e
 
   -- What is read is a row if it fits.
-  pub row-some : (before : List A) (l : Fields) (x : A) (b : Bool) → reads l ≡ Some x → fits before x ≡ b
+  row-some : (before : List A) (l : Fields) (x : A) (b : Bool) → reads l ≡ Some x → fits before x ≡ b
       → next-row reads fits before l ≡ only-if b x
   row-some before l x b e f =
       ap (λ (o : Option A). and-then o (λ y. only-if (fits before y) y)) e ∙ ap (λ (t : Bool). only-if t x) f
@@ -57,11 +59,13 @@ module _ {A : Type 0} (reads : Fields → Option A) (fits : List A → A → Boo
   run-ends (suc k) before [] e = refl
   run-ends (suc k) before (l ∷ ls) e = go (reads l) refl e
     where
-      stays : (x : A) (b : Bool) → only-if b x ≡ None → cond b (run k reads fits (before ++ (x ∷ [])) ls) (before, l ∷ ls) ≡ (before, l ∷ ls)
+      stays : (x : A) (b : Bool) → only-if b x ≡ None
+          → cond b (run k reads fits (before ++ (x ∷ [])) ls) (before, l ∷ ls) ≡ (before, l ∷ ls)
       stays x true f = absurd (true≢false (ap isSome f))
       stays x false f = refl
 
-      go : (o : Option A) → reads l ≡ o → and-then o (λ x. only-if (fits before x) x) ≡ None → run (suc k) reads fits before (l ∷ ls) ≡ (before, l ∷ ls)
+      go : (o : Option A) → reads l ≡ o → and-then o (λ x. only-if (fits before x) x) ≡ None
+          → run (suc k) reads fits before (l ∷ ls) ≡ (before, l ∷ ls)
       go None p f = rw (p, run) refl
       go (Some x) p f = rw (p, run) (stays x (fits before x) f)
 
@@ -70,20 +74,14 @@ module _ {A : Type 0} (reads : Fields → Option A) (fits : List A → A → Boo
       → run (suc k) reads fits before (l ∷ ls) ≡ run k reads fits (before ++ (x ∷ [])) ls
   run-goes k before l ls x e =
       let p = read-and-fits (reads l) (fits before) x e in
-      let r = p .0 in
       let f = p .1 in
-      rw (r, run) (rw f refl)
+      rw (p .0, run) (rw f refl)
 
   -- The rows so far, and what is left to read.
   pub record Begun (most from : ℕ) (ls : List Fields) (rows : List A) (next : ℕ) : Type 0 where
     pub few : length rows ≤ most
     pub within : next ≤ length ls
     pub left : run (most - length rows) reads fits rows (drop next ls) ≡ run most reads fits [] (drop from ls)
-
-  pub begun-none : (most from : ℕ) (ls : List Fields) → from ≤ length ls → Begun most from ls [] from
-  begun-none most from ls h =
-      let e : most - 0 ≡ most = omega arith in
-      record { few = omega arith; within = h; left = ap (λ (k : ℕ). run k reads fits [] (drop from ls)) e }
 
   -- A further row stands within the lines.
   pub next-within : (nothing : reads [] ≡ None) (ls : List Fields) (rows : List A) (next : ℕ) (x : A)
@@ -92,7 +90,8 @@ module _ {A : Type 0} (reads : Fields → Option A) (fits : List A → A → Boo
     where
       past : length ls ≤ next → next < length ls
       past h =
-          let p = read-and-fits (reads []) (fits rows) x (subst (λ (l : Fields). next-row reads fits rows l ≡ Some x) (getD-past ls next [] h) e) in
+          let n = subst (λ (l : Fields). next-row reads fits rows l ≡ Some x) (getD-past ls next [] h) e in
+          let p = read-and-fits (reads []) (fits rows) x n in
           absurd (false≢true (ap isSome (sym nothing ∙ p .0)))
 
   pub begun-more : (nothing : reads [] ≡ None) (most from : ℕ) (ls : List Fields) (rows : List A) (next : ℕ) (x : A)
@@ -126,14 +125,11 @@ module _ {A : Type 0} (reads : Fields → Option A) (fits : List A → A → Boo
       → Begun most from ls rows next → next-row reads fits rows (getD ls next []) ≡ None → Section most reads fits ls from rows next
   begun-ends most from ls rows next b e =
       record {
-        is-run = sym (b .left) ∙ run-ends (most - length rows) rows (drop next ls) (ap (next-row reads fits rows) (first ls next) ∙ e);
+        is-run =
+            sym (b .left)
+            ∙ run-ends (most - length rows) rows (drop next ls) (ap (next-row reads fits rows) (first-left ls next) ∙ e);
         within = b .within;
       }
-    where
-      first : (ls : List Fields) (n : ℕ) → getD (drop n ls) 0 [] ≡ getD ls n []
-      first ls zero = refl
-      first [] (suc n) = refl
-      first (l ∷ ls) (suc n) = first ls n
 
   -- The section at the limit.
   pub begun-full : (most from : ℕ) (ls : List Fields) (rows : List A) (next : ℕ)
@@ -146,3 +142,12 @@ module _ {A : Type 0} (reads : Fields → Option A) (fits : List A → A → Boo
     where
       z : most - length rows ≡ 0
       z = omega arith
+
+-- What the row of a `version` line is, at what is stored of the indices before and of the fields.
+pub version-at : (rows : List (Name × ℕ)) (indices lent : List ℕ) (l fields : Fields) (v : Name × ℕ) (b : Bool)
+    → map (λ w. w .1) rows ≡ indices → lent ≡ indices → fields ≡ l → Some v ≡ version-row fields
+    → b ≡ not (among (v .1) lent)
+    → next-row version-row new-index rows l ≡ only-if b v
+version-at rows indices lent l fields v b m p q e t =
+    row-some version-row new-index rows l v b (ap version-row (sym q) ∙ sym e)
+    (sym (t ∙ ap (λ (is : List ℕ). not (among (v .1) is)) (p ∙ sym m)))

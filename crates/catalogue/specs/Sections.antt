@@ -21,7 +21,7 @@ next-row reads fits before l = and-then (reads l) (λ x. only-if (fits before x)
 
 -- The rows of a run of lines from a place on, and the place behind it.
 pub record Section {A : Type 0} (most : ℕ) (reads : Fields → Option A) (fits : List A → A → Bool) (ls : List Fields)
-  (from : ℕ) (rows : List A) (next : ℕ) : Type 0 where
+    (from : ℕ) (rows : List A) (next : ℕ) : Type 0 where
   pub is-run : run most reads fits [] (drop from ls) ≡ (rows, drop next ls)
   pub within : next ≤ length ls
 

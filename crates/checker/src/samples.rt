@@ -4,5 +4,4 @@ ghost use Rattle.checker.specs.Samples.{Samples-hold};
 // Every row of the table of samples holds of the definitions that the contracts cite.
 pub fn samples_hold()
     ensures { λ _. ⌜ Samples-hold ⌝ }
-{
-}
+{}

@@ -10,5 +10,4 @@ pub fn theorems()
     ensures appends { λ _. ⌜ Topological-appends ⌝ }
     ensures kept { λ _. ⌜ Topological-kept ⌝ }
     ensures grows { λ _. ⌜ Closed-grows ⌝ }
-{
-}
+{}

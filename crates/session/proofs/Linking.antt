@@ -94,7 +94,7 @@ module _ (c : List Object) (order list : List ℕ) (t : Tables) (root : ℕ) (he
         } in (
           sym (ap (λ e. answer e 0) k),
           whole ∙ ap linked-with lists
-          ∙ sym (ap (λ e. after e (view c order t) (linked-at c (view c order t) root)) k),
+              ∙ sym (ap (λ e. after e (view c order t) (linked-at c (view c order t) root)) k),
         )
       where
         linked-with : List ℕ → State

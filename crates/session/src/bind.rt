@@ -29,28 +29,40 @@ impl Wanted {
 pub fn number<S: Scope>(scope: &S, object: u16, place: usize) -> u16
     ensures { λ r. ⌜ r ≡ reference-at (S·Scope .objects (now (scope .entry))) object place .number ⌝ }
 {
-    scope.catalogue().reference_number(object, place).unwrap_or(0)
+    scope
+        .catalogue()
+        .reference_number(object, place)
+        .unwrap_or(0)
 }
 
 // Whether a reference is weak.
 pub fn is_weak<S: Scope>(scope: &S, object: u16, place: usize) -> bool
     ensures { λ r. ⌜ r ≡ reference-at (S·Scope .objects (now (scope .entry))) object place .weak ⌝ }
 {
-    scope.catalogue().reference_weak(object, place).unwrap_or(false)
+    scope
+        .catalogue()
+        .reference_weak(object, place)
+        .unwrap_or(false)
 }
 
 // Whether the object itself defines the symbol of a reference.
 pub fn is_own<S: Scope>(scope: &S, object: u16, place: usize) -> bool
     ensures { λ r. ⌜ r ≡ reference-at (S·Scope .objects (now (scope .entry))) object place .own ⌝ }
 {
-    scope.catalogue().reference_own(object, place).unwrap_or(false)
+    scope
+        .catalogue()
+        .reference_own(object, place)
+        .unwrap_or(false)
 }
 
 // Whether a reference is protected.
 fn is_protected<S: Scope>(scope: &S, object: u16, place: usize) -> bool
     ensures { λ r. ⌜ r ≡ reference-at (S·Scope .objects (now (scope .entry))) object place .protected ⌝ }
 {
-    scope.catalogue().reference_protected(object, place).unwrap_or(false)
+    scope
+        .catalogue()
+        .reference_protected(object, place)
+        .unwrap_or(false)
 }
 
 // Whether an object takes its own offers first.
@@ -66,10 +78,22 @@ fn wanted<S: Scope>(scope: &S, object: u16, place: usize) -> Wanted
     ensures version { λ r. ⌜ wanted-version r ≡ reference-at (S·Scope .objects (now (scope .entry))) object place .version ⌝ }
 {
     let mut name = [0; 255];
-    let name_len = scope.catalogue().reference_name(object, place, &mut name).unwrap_or(None).unwrap_or(0);
+    let name_len = scope
+        .catalogue()
+        .reference_name(object, place, &mut name)
+        .unwrap_or(None)
+        .unwrap_or(0);
     let mut version = [0; 255];
-    let version_len = scope.catalogue().reference_version(object, place, &mut version).unwrap_or(None);
-    Wanted { name, name_len, version, version_len }
+    let version_len = scope
+        .catalogue()
+        .reference_version(object, place, &mut version)
+        .unwrap_or(None);
+    Wanted {
+        name,
+        name_len,
+        version,
+        version_len,
+    }
 }
 
 // A symbolic object's own offer.

@@ -27,7 +27,10 @@ fn check_entries<S: Scope>(scope: &S, object: u16) -> Result<(), Refusal>
 {
     for place in 0..needed_count(scope, object) {
         if needed_target(scope, object, place).is_none() {
-            return Err(Refusal::NoTarget { object: object as usize, entry: place });
+            return Err(Refusal::NoTarget {
+                object: object as usize,
+                entry: place,
+            });
         }
     }
     Ok(())
@@ -63,7 +66,11 @@ fn is_met<S: Scope>(scope: &S, object: u16, need: usize) -> bool
 {
     match scope.catalogue().need_target(object, need) {
         Some(target) => {
-            is_loaded(scope, target) && scope.catalogue().need_provided(object, need, target).unwrap_or(false)
+            is_loaded(scope, target)
+                && scope
+                    .catalogue()
+                    .need_provided(object, need, target)
+                    .unwrap_or(false)
         }
         None => false,
     }
@@ -75,7 +82,10 @@ fn check_versions<S: Scope>(scope: &S, object: u16) -> Result<(), Refusal>
 {
     for place in 0..need_count(scope, object) {
         if !is_weak_need(scope, object, place) && !is_met(scope, object, place) {
-            return Err(Refusal::NoVersion { object: object as usize, need: place });
+            return Err(Refusal::NoVersion {
+                object: object as usize,
+                need: place,
+            });
         }
     }
     Ok(())
@@ -101,7 +111,9 @@ pub fn check_room<S: Scope>(scope: &S) -> Result<(), Refusal>
             Some(object) => {
                 let count = reference_count(scope, object);
                 if room < count {
-                    return Err(Refusal::ManyBindings { object: object as usize });
+                    return Err(Refusal::ManyBindings {
+                        object: object as usize,
+                    });
                 }
                 room -= count;
             }
@@ -122,7 +134,10 @@ fn check_references<S: Scope>(scope: &mut S, object: u16) -> Result<(), Refusal>
     for place in 0..reference_count(scope, object) {
         let taken = bind(scope, object, place);
         if !is_weak(scope, object, place) && taken.is_none() {
-            return Err(Refusal::Unbound { object: object as usize, symbol: number(scope, object, place) as usize });
+            return Err(Refusal::Unbound {
+                object: object as usize,
+                symbol: number(scope, object, place) as usize,
+            });
         }
     }
     Ok(())

@@ -15,13 +15,20 @@ use catalogue::catalogue::Catalogue;
 use scope::list::table::ObjectList;
 use scope::scope::Scope;
 
-const EMPTY: Row = Row { object: 0, place: 0, taken: None };
+const EMPTY: Row = Row {
+    object: 0,
+    place: 0,
+    taken: None,
+};
 
 impl Rows {
     pub fn new() -> Rows
         ensures { λ r. ⌜ r .used ≡ 0 ⌝ }
     {
-        Rows { rows: [EMPTY; 4096], used: 0 }
+        Rows {
+            rows: [EMPTY; 4096],
+            used: 0,
+        }
     }
 
     // Records one binding more.
@@ -54,7 +61,11 @@ pub fn bind_object<S: Scope>(scope: &mut S, rows: &mut Rows, object: u16)
 {
     for place in 0..reference_count(scope, object) {
         let taken = bind(scope, object, place);
-        rows.push(Row { object, place: place as u16, taken });
+        rows.push(Row {
+            object,
+            place: place as u16,
+            taken,
+        });
     }
 }
 

@@ -32,7 +32,12 @@ impl Tables {
     {
         let preloads = ObjectList::new();
         let started = ObjectList::new();
-        Tables { root: None, preloads, started, bindings: Rows::new() }
+        Tables {
+            root: None,
+            preloads,
+            started,
+            bindings: Rows::new(),
+        }
     }
 }
 
@@ -73,7 +78,10 @@ impl<S: Scope> Setup<S> {
         ensures setup { λ r. ⌜ InSetup (S·Scope .objects scope) (S·Scope .order (r .scope)) (r .tables) ⌝ }
     {
         empty(&mut scope);
-        Setup { scope, tables: Tables::new() }
+        Setup {
+            scope,
+            tables: Tables::new(),
+        }
     }
 
     // Names one more object that is loaded behind the root and started before it.
@@ -92,7 +100,10 @@ impl<S: Scope> Setup<S> {
             return Err(Refusal::Twice { object: known });
         }
         if self.tables.preloads.len() >= 4 {
-            return Err(Refusal::TooMany { object: known, what: Limit::Preloads });
+            return Err(Refusal::TooMany {
+                object: known,
+                what: Limit::Preloads,
+            });
         }
         self.tables.preloads.push(object);
         Ok(())

@@ -12,7 +12,11 @@ use std::alloc::AllocError;
 use std::alloc::Global;
 
 // The fields of a line, none past the last line or in one without an end.
-pub fn fields_at<'a>(heap: Global, parts: &[&'a [u8]], at: usize) -> Result<Vec<&'a [u8]>, AllocError>
+pub fn fields_at<'a>(
+    heap: Global,
+    parts: &[&'a [u8]],
+    at: usize,
+) -> Result<Vec<&'a [u8]>, AllocError>
     ensures { λ r. ⌜ made r (λ v. names-of (vec-items v) ≡ getD (lines-in (now (parts .entry))) at []) ⌝ }
 {
     if at >= parts.len().saturating_sub(1) {

@@ -22,7 +22,12 @@ use std::alloc::AllocError;
 use std::alloc::Global;
 
 // The object behind its `object` line, and the place behind it.
-fn object_at<'a>(heap: Global, parts: &[&'a [u8]], from: usize, flags: u16) -> Result<(BookObject<'a>, usize), AllocError>
+fn object_at<'a>(
+    heap: Global,
+    parts: &[&'a [u8]],
+    from: usize,
+    flags: u16,
+) -> Result<(BookObject<'a>, usize), AllocError>
     requires { ⌜ from ≤ length (lines-in (now parts)) ⌝ }
     ensures { λ r. ⌜ made r (λ v. ObjectAt flags (lines-in (now (parts .entry))) from (object-of (v .0)) (v .1)) ⌝ }
 {
@@ -34,14 +39,28 @@ fn object_at<'a>(heap: Global, parts: &[&'a [u8]], from: usize, flags: u16) -> R
     let (needs, at) = rows_at(heap, parts, at, &Wants, 64)?;
     let (versions, at) = versions_at(heap, parts, at)?;
     let (definitions, at) = rows_at(heap, parts, at, &Definitions { versioned }, 4096)?;
-    let rule = References { definitions: &definitions };
+    let rule = References {
+        definitions: &definitions,
+    };
     let (references, at) = rows_at(heap, parts, at, &rule, 4096)?;
-    let object = BookObject { symbolic, versioned, soname, needed, needs, versions, definitions, references };
+    let object = BookObject {
+        symbolic,
+        versioned,
+        soname,
+        needed,
+        needs,
+        versions,
+        definitions,
+        references,
+    };
     Ok((object, at))
 }
 
 // The objects, at most 64, and the place behind the last.
-pub fn objects_in<'a>(heap: Global, parts: &[&'a [u8]]) -> Result<(Vec<BookObject<'a>>, usize), AllocError>
+pub fn objects_in<'a>(
+    heap: Global,
+    parts: &[&'a [u8]],
+) -> Result<(Vec<BookObject<'a>>, usize), AllocError>
     ensures { λ r. ⌜ made r (λ v. ObjectsIn (lines-in (now (parts .entry))) (objects-of (vec-items (v .0))) (v .1)) ⌝ }
 {
     let mut objects = Vec::new(heap);

@@ -13,12 +13,15 @@ use crate::fault::FaultFromAlloc;
 use elf::refusal::Refusal;
 use std::alloc::Global;
 
+// The most bytes of a book.
+const LONGEST: usize = 1_048_576;
+
 impl<'a> Book<'a> {
     // The objects that a text tells, or the first line that is bad or missing.
     pub fn read(heap: Global, text: &'a [u8]) -> Result<Book<'a>, Fault>
         ensures { λ r. ⌜ Reads (λ b. objects-of (vec-items (b .objects))) r (read-book (now (text .entry))) ⌝ }
     {
-        if text.len() > 1_048_576 {
+        if text.len() > LONGEST {
             return Err(Fault::Refused(Refusal::BookTooLong));
         }
         let Some(rest) = after_first_line(text) else {

@@ -34,7 +34,13 @@ pub trait Rule<'a> {
 }
 
 // The rows from a place on, at most so many, and the place behind them. A line without fields is no row.
-pub fn rows_at<'a, R: Rule<'a>>(heap: Global, parts: &[&'a [u8]], from: usize, rule: &R, most: usize) -> Result<(Vec<R::Row>, usize), AllocError>
+pub fn rows_at<'a, R: Rule<'a>>(
+    heap: Global,
+    parts: &[&'a [u8]],
+    from: usize,
+    rule: &R,
+    most: usize,
+) -> Result<(Vec<R::Row>, usize), AllocError>
     requires place { ⌜ from ≤ length (lines-in (now parts)) ⌝ }
     requires nothing { ⌜ R·Rule .reads (now rule) [] ≡ None ⌝ }
     ensures { λ r. ⌜ made r (λ v. Section most (R·Rule .reads (now (rule .entry))) (R·Rule .fits (now (rule .entry))) (lines-in (now (parts .entry))) from (map (R·Rule .meaning) (vec-items (v .0))) (v .1)) ⌝ }

@@ -1,5 +1,4 @@
 // The sections of an object, each by its rule.
-ghost use mathlib.Core.Path.{_≡_};
 ghost use mathlib.Core.List.{map};
 ghost use denote.Ref.{now as behind};
 ghost use Prim.Native.Nat.{_≤_};
@@ -89,7 +88,11 @@ pub impl<'a> Rule<'a> for Definitions as DefinitionsRule {
 
     fn row(&self, before: &[Definition<'a>], fields: &[&'a [u8]]) -> Option<Definition<'a>> {
         let row = def_row(fields)?;
-        if def_fits(self.versioned, before, &row) { Some(row) } else { None }
+        if def_fits(self.versioned, before, &row) {
+            Some(row)
+        } else {
+            None
+        }
     }
 }
 
@@ -112,12 +115,20 @@ pub impl<'a, 'd> Rule<'a> for References<'a, 'd> as ReferencesRule {
 
     fn row(&self, before: &[Reference<'a>], fields: &[&'a [u8]]) -> Option<Reference<'a>> {
         let row = ref_row(fields)?;
-        if ref_fits(self.definitions, before, &row) { Some(row) } else { None }
+        if ref_fits(self.definitions, before, &row) {
+            Some(row)
+        } else {
+            None
+        }
     }
 }
 
 // The names of the `version` lines from a place on, whose indices all differ, and the place behind them.
-pub fn versions_at<'a>(heap: Global, parts: &[&'a [u8]], from: usize) -> Result<(Vec<&'a [u8]>, usize), AllocError>
+pub fn versions_at<'a>(
+    heap: Global,
+    parts: &[&'a [u8]],
+    from: usize,
+) -> Result<(Vec<&'a [u8]>, usize), AllocError>
     requires { ⌜ from ≤ length (lines-in (now parts)) ⌝ }
     ensures { λ r. ⌜ made r (λ v. Versions (lines-in (now (parts .entry))) from (names-of (vec-items (v .0))) (v .1)) ⌝ }
 {

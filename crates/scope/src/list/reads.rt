@@ -23,7 +23,10 @@ impl ObjectList {
     pub fn new() -> ObjectList
         ensures { λ r. ⌜ listed r ≡ [] ⌝ }
     {
-        ObjectList { items: [0; 64], len: 0 }
+        ObjectList {
+            items: [0; 64],
+            len: 0,
+        }
     }
 
     pub fn len(&self) -> usize

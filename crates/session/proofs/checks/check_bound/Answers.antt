@@ -44,13 +44,12 @@ loop-place-again g c =
     let inv = c .loop-place .inv in
     let h = c .check-references .ensures in
     let l : i < length xs = omega arith in
-    let a = ap₂ (λ (d : List Object) (u : List ℕ). answer {A = Unit {0}} (unbound d u o) tt) (inv .1) (inv .2) in
-    (
+    let a = ap₂ (λ (d : List Object) (u : List ℕ). answer {A = Unit {0}} (unbound d u o) tt) (inv .1) (inv .2) in (
       h .lawful,
       h .objects ∙ inv .1,
       h .order ∙ inv .2,
       list-more (unbound os order) xs i o (first (unbound os order) xs) (inv .3) l (c .at .ensures)
-      _ (c .in-Continue-check-references .ensures tt .answer ∙ a),
+          _ (c .in-Continue-check-references .ensures tt .answer ∙ a),
     )
 
 pub returns : need.returns

@@ -52,17 +52,16 @@ loop-place-again g c =
     let l : i < length (object os o .references) = omega arith in
     let asked =
     reference-asked os (g .S·Scope .objects (c .loop-place .scope)) (g .S·Scope .objects (c .bind-taken .last .scope)) order
-    (g .S·Scope .order (c .loop-place .scope)) o i (inv .1) (inv .2) s (c .bind-taken .result) in
-    (
+    (g .S·Scope .order (c .loop-place .scope)) o i (inv .1) (inv .2) s (c .bind-taken .result) in (
       h .lawful,
       s,
       h .order ∙ inv .2,
       first-more (ask-reference os order o) (object os o .references) i (unbound os order o) (inv .3) no-reference l
-      (elim (c .else-not-is-weak .came) [
-        | else-not-is-weak·by·then-not-is-weak·else-is-none w ↦
-            asked false true (h .taken) (w .if-not-is-weak .ensures tt) (w .if-is-none .ensures tt)
-        | else-not-is-weak·by·else-not-is-weak w ↦ asked true _ (h .taken) (w .if-not-is-weak .ensures tt) refl
-      ]),
+          (elim (c .else-not-is-weak .came) [
+            | else-not-is-weak·by·then-not-is-weak·else-is-none w ↦
+                asked false true (h .taken) (w .if-not-is-weak .ensures tt) (w .if-is-none .ensures tt)
+            | else-not-is-weak·by·else-not-is-weak w ↦ asked true _ (h .taken) (w .if-not-is-weak .ensures tt) refl
+          ]),
     )
 
 pub returns : need.returns

@@ -32,11 +32,11 @@ loop-place-again g c =
     let l : i < length order = omega arith in
     elim (c .match-at .came) [
       | in-Some·else-room-count w ↦ (
-          omega (arith, w .room-is),
-          ap (λ (n : ℕ). many-bindings os n (drop (i + 1) order)) (w .room-is)
-          ∙ room-more os order i (c .loop-place .room) (w .in-Some .object) (w .reference-count-count .result) l (w .in-Some .ensures tt) (w .reference-count-count .ensures) (w .if-room-count .left)
-          ∙ c .loop-place .inv .1,
-        )
+        omega (arith, w .room-is),
+        ap (λ (n : ℕ). many-bindings os n (drop (i + 1) order)) (w .room-is)
+            ∙ room-more os order i (c .loop-place .room) (w .in-Some .object) (w .reference-count-count .result) l (w .in-Some .ensures tt) (w .reference-count-count .ensures) (w .if-room-count .left)
+            ∙ c .loop-place .inv .1,
+      )
       | in-None w ↦ absurd (place-none order i 0 l (w .in-None .ensures tt))
     ]
 

@@ -47,15 +47,14 @@ loop-place-again g c =
     let h = c .bind-object .ensures in
     let l : i < length xs = omega arith in
     let e = counted os now xs i o l (inv .1) (c .at .ensures) in
-    let r = added os now order (g .S·Scope .order (c .loop-place .scope)) o (getD xs i 0) (c .loop-place .rows) (c .bind-object .last .rows) (inv .1) (inv .2) (c .at .ensures) (h .rows) in
-    (
+    let r = added os now order (g .S·Scope .order (c .loop-place .scope)) o (getD xs i 0) (c .loop-place .rows) (c .bind-object .last .rows) (inv .1) (inv .2) (c .at .ensures) (h .rows) in (
       h .lawful,
       h .objects ∙ inv .1,
       h .order ∙ inv .2,
       omega (arith, e, h .used, inv .3),
       ap (λ (v : List Binding). v ++ bindings-of-all os order (drop (i + 1) xs)) r
-      ∙ put-more (bindings-of-all os order) (bindings-of os order) refl (λ _ _. refl) xs i (recorded os (c .loop-place .rows)) 0 l
-      ∙ inv .4,
+          ∙ put-more (bindings-of-all os order) (bindings-of os order) refl (λ _ _. refl) xs i (recorded os (c .loop-place .rows)) 0 l
+          ∙ inv .4,
     )
 
 pub returns : need.returns

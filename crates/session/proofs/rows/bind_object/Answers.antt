@@ -27,15 +27,14 @@ loop-place-again g c =
     ∙ ap₂ (λ (d : List Object) (u : List ℕ). taken d u o (reference-at d o k)) (inv .1) (inv .2) in
     let r : recorded os (c .push .last .self) ≡ before ++ (bound os order o (reference-at os o k) ∷ []) =
     c .push .ensures .rows os
-    ∙ ap (λ (v : Option Found). before ++ (record { object = o; reference = reference-at os o k; taken = v } ∷ [])) t in
-    (
+    ∙ ap (λ (v : Option Found). before ++ (record { object = o; reference = reference-at os o k; taken = v } ∷ [])) t in (
       c .bind-taken .ensures .lawful,
       c .bind-taken .ensures .objects ∙ inv .1,
       c .bind-taken .ensures .order ∙ inv .2,
       omega (arith, c .push .ensures .used, inv .3),
       ap (λ (v : List Binding). v ++ map (bound os order o) (drop (k + 1) refs)) r
-      ∙ put-more (map (bound os order o)) (λ x. bound os order o x ∷ []) refl (λ _ _. refl) refs k before no-reference l
-      ∙ inv .4,
+          ∙ put-more (map (bound os order o)) (λ x. bound os order o x ∷ []) refl (λ _ _. refl) refs k before no-reference l
+          ∙ inv .4,
     )
 
 pub returns : need.returns

@@ -1,4 +1,4 @@
-use mathlib.Core.Path.{_≡_, sym, ap, subst, _∙_}
+use mathlib.Core.Path.{sym, ap, subst, _∙_}
 use mathlib.Core.List.{List, map}
 use denote.Ref.{RefT, now}
 use Prim.Native.Nat.{ℕ}
@@ -21,12 +21,14 @@ returns c =
     let refs = map reference-of (vec-items (c .in-Continue-references .references)) in
     let e = c .in-Continue-definitions .at in
     let f = c .in-Continue-references .at in
-    let soname = ap (λ (xs : List (RefT (List ℕ))). nth (names-of xs) 0) (sym (c .deref .ensures .value))
+    let soname =
+    ap (λ (xs : List (RefT (List ℕ))). nth (names-of xs) 0) (sym (c .deref .ensures .value))
     ∙ first-name _ _ (c .first .ensures .item) ∙ ap bytes-of (sym (c .copied-soname .ensures)) in
-    let s = subst (λ (ds : List Definition). Section 4096 ref-row (ref-fits (map definition-of ds)) ls e refs f) (c .deref-2 .ensures .value)
-    (c .in-Continue-references .ensures tt) in
-    object-made (c .args .flags) ls (c .args .from) (c .in-Continue-sonames .at) (c .in-Continue-needed .at) (c .in-Continue-needs .at)
-    (c .in-Continue-versions .at) e f _ (bytes-of (c .copied-soname .result)) (names-of sonames)
+    let s =
+    subst (λ (ds : List Definition). Section 4096 ref-row (ref-fits (map definition-of ds)) ls e refs f)
+    (c .deref-2 .ensures .value) (c .in-Continue-references .ensures tt) in
+    object-made (c .args .flags) ls (c .args .from) (c .in-Continue-sonames .at) (c .in-Continue-needed .at)
+    (c .in-Continue-needs .at) (c .in-Continue-versions .at) e f _ (bytes-of (c .copied-soname .result)) (names-of sonames)
     (names-of (vec-items (c .in-Continue-needed .needed))) (map need-of (vec-items (c .in-Continue-needs .needs)))
     (names-of (vec-items (c .in-Continue-versions .versions))) (map definition-of defs) refs (lowest-flag (c .args .flags)) soname
     (c .in-Continue-sonames .ensures tt) (c .in-Continue-needed .ensures tt) (c .in-Continue-needs .ensures tt)

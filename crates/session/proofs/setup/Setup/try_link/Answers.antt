@@ -28,7 +28,7 @@ new-list-list-requires g c κs =
     record {
       lawful = c .pre .lawful;
       known = known-from os (c .args .root) (listed (c .args .self .now .tables .preloads)) _ here (c .pre .setup .preloads)
-      (c .as-slice .ensures ∙ c .link-from-from .ensures);
+          (c .as-slice .ensures ∙ c .link-from-from .ensures);
     }
 
 pub returns-in-Break-load : need.returns-in-Break-load
