@@ -9,7 +9,7 @@ pub mod Asked
 pub mod Firsts
 pub mod Recorded
 pub mod Rooms
-pub mod Answered
+pub mod Checking
 pub mod Linking
 pub mod Decimals
 pub mod Reports

@@ -21,7 +21,7 @@ use Rattle.session.specs.Checks.{batch-refusal, no-target, no-version, many-bi
 use Rattle.session.specs.Calls.{link, link-list, link-refusal, linked-at, load-new}
 use Rattle.session.specs.View.{view, recorded, binding-of, InSetup}
 use Rattle.session.specs.declared.table.Tables.{Tables}
-use Rattle.session.proofs.Answered.{or-else-none, neither, known}
+use Rattle.session.proofs.Checking.{or-else-none, neither, known}
 use Rattle.session.proofs.Firsts.{granted, refused}
 
 -- what a link starts from is known

@@ -94,7 +94,7 @@ returns-after-loop-place g t c =
     record {
       marks =
           marked (b .entered) (listed (c .push-then-not-has .last .self)) (leave o b) refl (c .push-then-not-has .ensures)
-          ∙ entered-done (targets os) new (length os) (c .pre .listed .known) (c .args .depth) o m a b (c .if-depth-gt0 .taken)
+          ∙ entered-done (targets os) new (c .args .depth) o m a b (c .if-depth-gt0 .taken)
           (sym (c .if-has .ensures tt)) (sym (c .if-not-has .ensures tt)) begun ended;
       marked = c .loop-place .inv .1;
       room =
@@ -116,11 +116,11 @@ returns-else-depth-gt0 g t c =
     record {
       marks = elim (c .else-depth-gt0 .came) [
         | else-depth-gt0·by·then-depth-gt0·then-has·else-not-has w ↦
-            skipped-seen (targets os) new (length os) (c .pre .listed .known) d o m (sym (w .if-not-has .ensures tt))
+            skipped-seen (targets os) new d o m (sym (w .if-not-has .ensures tt))
         | else-depth-gt0·by·then-depth-gt0·else-has w ↦
-            skipped-old (targets os) new (length os) (c .pre .listed .known) d o m (sym (w .if-has .ensures tt))
+            skipped-old (targets os) new d o m (sym (w .if-has .ensures tt))
         | else-depth-gt0·by·else-depth-gt0 w ↦
-            skipped-deep (targets os) new (length os) (c .pre .listed .known) d o m (w .if-depth-gt0 .left)
+            skipped-deep (targets os) new d o m (w .if-depth-gt0 .left)
       ];
       marked = c .pre .marked;
       room = refl;
