@@ -1,4 +1,6 @@
 // The export book: a text read into a catalogue.
+#![tactic(auto)]
+
 pub mod asks;
 mod lines;
 mod lookup;

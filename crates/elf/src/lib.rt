@@ -1,4 +1,6 @@
 // Shared objects below any catalogue: refusals, symbols, and which definition an object offers.
+#![tactic(auto)]
+
 pub mod name;
 pub mod offer;
 pub mod refusal;

@@ -1,4 +1,6 @@
 // Finite graphs: what a search by breadth and a search by depth give, for any graph.
+#![tactic(auto)]
+
 ghost use Rattle.graph.specs.Graph.{SpreadSpreads, SpreadIsReach, OrderOrders, SpreadOrders, TopologicalAppends, TopologicalKept, ClosedGrows};
 
 // The theorems on both searches, which hold of every graph.

@@ -1,4 +1,6 @@
 // `linkbook`: reads a book from standard input, and prints its report or one refusal line.
+#![tactic(auto)]
+
 use anyhow::anyhow;
 use checker::linkbook::linkbook;
 use std::io::{Read, Write};

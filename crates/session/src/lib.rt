@@ -1,4 +1,6 @@
 // Link sessions over any scope: set-up, linking and reports.
+#![tactic(auto)]
+
 mod bind;
 mod checks;
 mod digits;

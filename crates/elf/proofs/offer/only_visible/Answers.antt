@@ -4,24 +4,24 @@ use Rattle.elf.specs.Offers.{visible}
 use Rattle.elf.specs.Picks.{counting}
 use Rattle.elf.proofs.Counting.{sole_after, sole_after_none, counting_next}
 use Rattle.elf.proofs.offer.only_visible.Goals as goal
-use Rattle.elf.proofs.offer.only_visible.Goals.{then-equal+then-is-visible+else-is-some, else-equal, else-equal-via-then-equal+else-is-visible, else-equal-via-else-equal}
+use Rattle.elf.proofs.offer.only_visible.Goals.{then-equal+then-is_visible+else-is_some, else-equal, else-equal-via-then-equal+else-is_visible, else-equal-via-else-equal}
 
-pub returns-then-is-some : goal.returns-then-is-some
-returns-then-is-some c =
+pub returns-then-is_some : goal.returns-then-is_some
+returns-then-is_some c =
     let e = counting_next visible c.args.definitions.now c.loop-definition.definition-index c.args.name.now
     c.loop-definition-test.true in
-    grind (arith, e, c.loop-definition.invariant, c.if-is-some.ensures)
+    grind (arith, e, c.loop-definition.invariant, c.if-is_some.ensures)
 
 pub loop-definition-preserved : goal.loop-definition-preserved
 loop-definition-preserved c =
     let e = counting_next visible c.args.definitions.now c.loop-definition.definition-index c.args.name.now
     c.loop-definition-test.true in
     elim c.if-equal.branch [
-      | then-equal+then-is-visible+else-is-some w ↦
-          grind (arith, e, c.loop-definition.invariant, w.found-is, w.if-is-some.ensures)
+      | then-equal+then-is_visible+else-is_some w ↦
+          grind (arith, e, c.loop-definition.invariant, w.found-is, w.if-is_some.ensures)
       | else-equal w ↦
           elim w.else-equal.branch [
-            | else-equal-via-then-equal+else-is-visible v ↦ grind (arith, e, c.loop-definition.invariant, w.found-is, v.if-is-visible.ensures)
+            | else-equal-via-then-equal+else-is_visible v ↦ grind (arith, e, c.loop-definition.invariant, w.found-is, v.if-is_visible.ensures)
             | else-equal-via-else-equal v ↦ grind (arith, e, c.loop-definition.invariant, w.found-is, v.if-equal.ensures)
           ]
     ]
