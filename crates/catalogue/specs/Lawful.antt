@@ -1,7 +1,7 @@
 -- The rules that every catalogue's meaning keeps.
 use Rattle.std.specs.Prelude.{◌≡◌, ℕ, ◌<◌, ◌≤◌, Bool, true, false, cond, not, ◌&&◌, List, [], ◌∷◌, map, length, Some, None, Option, ◌==◌, nat_le}
 use Rattle.std.specs.Bool.{beq}
-use Rattle.std.specs.List.{AllByRecursion as All}
+use Rattle.std.specs.List.{AllByRecursion}
 use Rattle.std.specs.Str.{bytes_eq}
 use Rattle.elf.specs.Names.{Name, lawful}
 use Rattle.elf.specs.Meaning.{Definition, Reference, Object, numbered}
@@ -58,14 +58,14 @@ LawfulReference o r =
 -- An object keeps the rules on names, numbers, flags and limits.
 pub record LawfulObject (o : Object) : Type 0 where
   pub soname : LawfulIfTold o.soname
-  pub needed : (length o.needed ≤ 32) × All LawfulName o.needed
-  pub needs : (length o.needs ≤ 64) × All (λ n. LawfulName n.file × LawfulName n.version) o.needs
-  pub versions : (length o.versions ≤ 64) × All LawfulName o.versions
-  pub definitions : (length o.definitions ≤ 4096) × All (LawfulDefinition o) o.definitions
-  pub references : (length o.references ≤ 4096) × All (LawfulReference o) o.references
+  pub needed : (length o.needed ≤ 32) × AllByRecursion LawfulName o.needed
+  pub needs : (length o.needs ≤ 64) × AllByRecursion (λ n. LawfulName n.file × LawfulName n.version) o.needs
+  pub versions : (length o.versions ≤ 64) × AllByRecursion LawfulName o.versions
+  pub definitions : (length o.definitions ≤ 4096) × AllByRecursion (LawfulDefinition o) o.definitions
+  pub references : (length o.references ≤ 4096) × AllByRecursion (LawfulReference o) o.references
   pub definitions_rise : Rising 0 (map (λ d. d.number) o.definitions)
   pub references_rise : Rising 0 (map (λ r. r.number) o.references)
 
 -- A catalogue has 1 to 64 lawful objects.
 abbrev pub Lawful : List Object → Type 0
-Lawful c = (1 ≤ length c) × (length c ≤ 64) × All LawfulObject c
+Lawful c = (1 ≤ length c) × (length c ≤ 64) × AllByRecursion LawfulObject c

@@ -3,14 +3,21 @@ use Rattle.std.specs.Prelude.{ℕ, true, List, [], ◌∷◌, map, Some, None, O
 use Rattle.std.proofs.Math.Logic.{∥∥₁_elim}
 use Rattle.std.proofs.Math.Bridge.{le_prop}
 use Rattle.std.specs.Coded.{coded_bool}
-use denote.Struct.Props.{≡_prop, three_prop, four_prop}
+use denote.Struct.Props.{≡_prop}
 use denote.Struct.Record.{Also-prop, Done-prop}
-use Rattle.std.specs.List.{AllByRecursion as All}
+use Rattle.std.specs.List.{AllByRecursion}
 use Rattle.elf.specs.Names.{Name, lawful}
 use Rattle.elf.specs.Meaning.{Definition, Reference, Object, numbered}
 use Rattle.catalogue.specs.Lawful.{LawfulName, LawfulIfTold, Rising, index_fits, version_fits, agrees, LawfulDefinition, LawfulReference, LawfulObject, Lawful}
 
-all_prop : {A : Type 0} (P : A → Type 0) → ((x : A) → IsProp (P x)) → (xs : List A) → IsProp (All P xs)
+-- Three facts or four, each in at most one way.
+three_prop : {P Q R : Type 0} → IsProp P → IsProp Q → IsProp R → IsProp (P × Q × R)
+three_prop p q r x y = λ i. (p x.0 y.0 i, q x.1 y.1 i, r x.2 y.2 i)
+
+four_prop : {P Q R S : Type 0} → IsProp P → IsProp Q → IsProp R → IsProp S → IsProp (P × Q × R × S)
+four_prop p q r s x y = λ i. (p x.0 y.0 i, q x.1 y.1 i, r x.2 y.2 i, s x.3 y.3 i)
+
+all_prop : {A : Type 0} (P : A → Type 0) → ((x : A) → IsProp (P x)) → (xs : List A) → IsProp (AllByRecursion P xs)
 all_prop P p [] = Done-prop
 all_prop P p (x ∷ xs) = Also-prop (p x) (λ _. all_prop P p xs)
 

@@ -1,6 +1,6 @@
 -- Worked samples as one table, and what each row says.
 use Rattle.std.specs.Prelude.{◌≡◌, ℕ, List, [], ◌∷◌, ◌++◌, Some, None, Ok, Err, codes, Option, Result}
-use Rattle.std.specs.List.{AllByRecursion as All}
+use Rattle.std.specs.List.{AllByRecursion}
 use Rattle.elf.specs.declared.refusal.Refusal.{Refusal}
 use Rattle.elf.specs.Meaning.{Object, object}
 use Rattle.elf.specs.Offers.{offer}
@@ -79,4 +79,4 @@ samples =
 
 -- Every sample holds.
 abbrev pub SamplesHold : Type 0
-SamplesHold = All Holds samples
+SamplesHold = AllByRecursion Holds samples

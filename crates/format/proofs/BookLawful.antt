@@ -1,7 +1,7 @@
 -- What a book admits is a lawful catalogue.
 use Rattle.std.proofs.Common.{◌≡◌, ℕ, zero, suc, ◌+◌, ◌-◌, ◌%◌, ◌<◌, ◌≤◌, Bool, true, false, cond, not, ◌&&◌, ◌||◌, eqb, ltb, leb, List, [], ◌∷◌, ◌++◌, map, length, get_or, drop, is_ok, Some, None, Ok, Err, codes, Option, Result, sym, refl, ap, subst, arith}
 use lib.ListN.{length-map}
-use Rattle.std.specs.List.{AllByRecursion as All, slice_get}
+use Rattle.std.specs.List.{AllByRecursion, slice_get}
 use Rattle.std.proofs.ByRecursion.{All-map, All-push}
 use Rattle.std.proofs.lemmas.List.{length_push, map_push}
 use Rattle.std.proofs.lemmas.Bool.{and_parts, false≢true, leb-true, ltb-true}
@@ -60,10 +60,10 @@ module _ {A : Type 0} (reads : Fields → Option A) (fits : List A → A → Boo
 
   -- What holds of each row that is read and fits holds of all, of which there are few.
   run_all : (P : A → Type 0) → ((before : List A) (l : Fields) (x : A) → reads l ≡ Some x → fits before x ≡ true → P x)
-      → (k : ℕ) (ls : List Fields) → (length (run k reads fits [] ls).0 ≤ k) × All P (run k reads fits [] ls).0
+      → (k : ℕ) (ls : List Fields) → (length (run k reads fits [] ls).0 ≤ k) × AllByRecursion P (run k reads fits [] ls).0
   run_all P each k ls = (
     omega (arith, run_few k [] ls),
-    run_keeps (All P) (λ before l x q r f. All-push P before x q (each before l x r f)) k [] ls tt,
+    run_keeps (AllByRecursion P) (λ before l x q r f. All-push P before x q (each before l x r f)) k [] ls tt,
   )
 
 -- The last number, or the one below.
@@ -182,7 +182,7 @@ reference_read l r e =
     })
 
 -- The first of some lawful names, if there is one.
-first_lawful : (ns : List Name) → All LawfulName ns → LawfulIfTold (slice_get ns 0)
+first_lawful : (ns : List Name) → AllByRecursion LawfulName ns → LawfulIfTold (slice_get ns 0)
 first_lawful [] h = tt
 first_lawful (n ∷ ns) h = h.0
 
@@ -215,7 +215,7 @@ object_lawful flags ls =
     }
 
 -- So are all objects, at most as many as are asked for.
-objects_lawful : (k : ℕ) (ls : List Fields) → (length (read_objects k ls).0 ≤ k) × All LawfulObject (read_objects k ls).0
+objects_lawful : (k : ℕ) (ls : List Fields) → (length (read_objects k ls).0 ≤ k) × AllByRecursion LawfulObject (read_objects k ls).0
 objects_lawful zero ls = (omega arith, tt)
 objects_lawful (suc k) [] = (omega arith, tt)
 objects_lawful (suc k) (l ∷ ls) = go (objects_lawful k (object_body (number_at l 1) ls).1) (is_object l)
@@ -226,8 +226,8 @@ objects_lawful (suc k) (l ∷ ls) = go (objects_lawful k (object_body (number_at
     both : Bool → List Object × List Fields
     both b = cond b (body.0 ∷ (read_objects k body.1).0, (read_objects k body.1).1) ([], l ∷ ls)
 
-    go : (length (read_objects k body.1).0 ≤ k) × All LawfulObject (read_objects k body.1).0
-        → (b : Bool) → (length (both b).0 ≤ suc k) × All LawfulObject (both b).0
+    go : (length (read_objects k body.1).0 ≤ k) × AllByRecursion LawfulObject (read_objects k body.1).0
+        → (b : Bool) → (length (both b).0 ≤ suc k) × AllByRecursion LawfulObject (both b).0
     go others true = (omega (arith, others.0), (object_lawful (number_at l 1) ls, others.1))
     go others false = (omega arith, tt)
 

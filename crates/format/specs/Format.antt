@@ -1,6 +1,6 @@
 -- The format's rules as a relation between a text and a catalogue, and what holds of every text.
 use Rattle.std.specs.Prelude.{◌≡◌, ℕ, ◌≤◌, ◌⊎◌, List, [], ◌∷◌, ◌++◌, map, length, Ok}
-use Rattle.std.specs.List.{AllByRecursion as All}
+use Rattle.std.specs.List.{AllByRecursion}
 use Rattle.graph.specs.Graph.{Distinct}
 use Rattle.elf.specs.Names.{Name}
 use Rattle.elf.specs.Meaning.{Object}
@@ -17,7 +17,7 @@ Index i = (2 ≤ i) × (i ≤ 255)
 pub record Tells (o : Object) (ls : List Fields) : Type 0 where
   pub versions : List (Name × ℕ)
   pub named : map (λ v. v.0) versions ≡ o.versions
-  pub indices : All Index (map (λ v. v.1) versions)
+  pub indices : AllByRecursion Index (map (λ v. v.1) versions)
   pub distinct : Distinct (map (λ v. v.1) versions)
   pub lines : ls ≡ object_line o ∷ body_lines o versions
 

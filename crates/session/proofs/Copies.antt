@@ -2,7 +2,7 @@
 use Rattle.std.proofs.Common.{◌≡◌, ℕ, zero, suc, false, ltb, List, [], ◌∷◌, ◌++◌, length, take, drop, Some, None, Option, Result, unwrap_or, refl, ap, ◌∙◌, ap₂, arith}
 use Rattle.std.specs.Option.{option_map}
 use Rattle.std.specs.Result as results
-use Rattle.std.specs.List.{AllByRecursion as All, slice_get}
+use Rattle.std.specs.List.{AllByRecursion, slice_get}
 use Rattle.std.proofs.lemmas.List.{take_at}
 use Rattle.std.proofs.lemmas.Bool.Decides.{nat_tests}
 use Rattle.elf.specs.declared.refusal.Refusal.{Refusal}
@@ -17,19 +17,19 @@ use Rattle.session.proofs.Told.{led_at}
 
 -- the references of an object keep the rules
 lawful_references :
-    (c : List Object) (o : ℕ) → All LawfulObject c → All (LawfulReference (object c o)) (object c o).references
+    (c : List Object) (o : ℕ) → AllByRecursion LawfulObject c → AllByRecursion (LawfulReference (object c o)) (object c o).references
 lawful_references [] o h = tt
 lawful_references (p ∷ ps) zero h = h.0.references.1
 lawful_references (p ∷ ps) (suc o) h = lawful_references ps o h.1
 
 name_told :
-    (o : Object) (rs : List Reference) (k : ℕ) → All (LawfulReference o) rs → LawfulIfTold (option_map (λ r. r.name) (slice_get rs k))
+    (o : Object) (rs : List Reference) (k : ℕ) → AllByRecursion (LawfulReference o) rs → LawfulIfTold (option_map (λ r. r.name) (slice_get rs k))
 name_told o [] k h = tt
 name_told o (r ∷ rs) zero h = h.0.0
 name_told o (r ∷ rs) (suc k) h = name_told o rs k h.1
 
 version_told :
-    (o : Object) (rs : List Reference) (k : ℕ) → All (LawfulReference o) rs → LawfulIfTold (and_then (slice_get rs k) (λ r. r.version))
+    (o : Object) (rs : List Reference) (k : ℕ) → AllByRecursion (LawfulReference o) rs → LawfulIfTold (and_then (slice_get rs k) (λ r. r.version))
 version_told o [] k h = tt
 version_told o (r ∷ rs) zero h = h.0.1
 version_told o (r ∷ rs) (suc k) h = version_told o rs k h.1
