@@ -5,30 +5,30 @@ use Rattle.elf.specs.Names.{names_of}
 use Rattle.bookline.proofs.RowsRead.{def_no_index, def_no_flags, def_no_symbol, def_no_version, def_made}
 use Rattle.bookline.proofs.rows.def_row.Goals as goal
 
-pub returns-in-err-versym : goal.returns-in-err-versym
-returns-in-err-versym c =
-    ap (option_map definition_of) c.from-residual.ensures
-    ∙ def_no_index (names_of c.args.fields.now) c.in-err-versym.ensures
+pub returns-in_err-versym : goal.returns-in_err-versym
+returns-in_err-versym c =
+    ap (option_map definition_of) c.from_residual.ensures
+    ∙ def_no_index (names_of c.args.fields.now) c.in_err-versym.ensures
 
-pub returns-in-err-flags : goal.returns-in-err-flags
-returns-in-err-flags c =
-    ap (option_map definition_of) c.from-residual-in-err-flags.ensures
-    ∙ def_no_flags (names_of c.args.fields.now) c.in-err-flags.ensures
+pub returns-in_err-flags : goal.returns-in_err-flags
+returns-in_err-flags c =
+    ap (option_map definition_of) c.from_residual-in_err-flags.ensures
+    ∙ def_no_flags (names_of c.args.fields.now) c.in_err-flags.ensures
 
-pub returns-in-err-number : goal.returns-in-err-number
-returns-in-err-number c =
-    ap (option_map definition_of) c.from-residual-in-err-number.ensures
-    ∙ def_no_symbol (names_of c.args.fields.now) c.in-ok-versym.versym _ c.in-ok-versym.ensures
-    c.count-if.ensures c.in-err-number.ensures
+pub returns-in_err-number : goal.returns-in_err-number
+returns-in_err-number c =
+    ap (option_map definition_of) c.from_residual-in_err-number.ensures
+    ∙ def_no_symbol (names_of c.args.fields.now) c.in_ok-versym.versym _ c.in_ok-versym.ensures
+    c.count_if.ensures c.in_err-number.ensures
 
-pub returns-in-err-version : goal.returns-in-err-version
-returns-in-err-version c =
-    ap (option_map definition_of) c.from-residual-in-err-version.ensures
-    ∙ def_no_version (names_of c.args.fields.now) c.in-ok-versym.versym c.in-ok-versym.ensures
-    c.in-err-version.ensures
+pub returns-in_err-version : goal.returns-in_err-version
+returns-in_err-version c =
+    ap (option_map definition_of) c.from_residual-in_err-version.ensures
+    ∙ def_no_version (names_of c.args.fields.now) c.in_ok-versym.versym c.in_ok-versym.ensures
+    c.in_err-version.ensures
 
 pub returns : goal.returns
 returns c =
-    def_made (names_of c.args.fields.now) c.in-ok-versym.versym c.in-ok-flags.flags _ _ _ _
-    c.in-ok-versym.ensures c.in-ok-flags.ensures c.count-if.ensures
-    c.in-ok-number.ensures c.in-ok-version.ensures
+    def_made (names_of c.args.fields.now) c.in_ok-versym.versym c.in_ok-flags.flags _ _ _ _
+    c.in_ok-versym.ensures c.in_ok-flags.ensures c.count_if.ensures
+    c.in_ok-number.ensures c.in_ok-version.ensures

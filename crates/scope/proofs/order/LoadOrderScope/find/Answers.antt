@@ -21,7 +21,7 @@ pub loop-place-preserved : goal.loop-place-preserved
 loop-place-preserved g c =
     sym (find_on (g.C.Catalogue.meaning c.args.self.now.catalogue) (listed c.args.self.now.objects)
     c.args.name.now (bytes_of c.args.version) c.loop-place.place c.at-object.result
-    (omega (arith, c.len-place-end.ensures.0)) c.at-object.ensures c.in-default.ensures)
+    (omega (arith, c.len-place-end.ensures.0)) c.at-object.ensures c.in_default.ensures)
     ∙ c.loop-place.invariant
 
 pub returns : goal.returns
