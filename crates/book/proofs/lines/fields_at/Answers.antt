@@ -6,8 +6,8 @@ use Rattle.elf.specs.Names.{names_of}
 use Rattle.book.proofs.LinesTold.{fields_within, fields_past}
 use Rattle.book.proofs.lines.fields_at.Goals as goal
 
-pub returns-then-at-saturating-sub : goal.returns-then-at-saturating-sub
-returns-then-at-saturating-sub c =
+pub returns-then-at-saturating_sub : goal.returns-then-at-saturating_sub
+returns-then-at-saturating_sub c =
     let ps = c.args.parts.now in
     ap names_of c.new.ensures.items ∙ sym (fields_past (names_of ps) c.args.at (omega (arith, length-map ps (λ x. x.now))))
 

@@ -16,7 +16,7 @@ pub returns-then-at-parts-2 : goal.returns-then-at-parts-2
 returns-then-at-parts-2 c =
     let ps = c.args.parts.now in
     let e = get_or-map (λ x. x.now) ps c.args.at (record { ref_ptr = (0, 0); now = [] }) [] c.if-at-parts.false in
-    c.is-empty.ensures ∙ sym (ap (λ (n : Name). eqb (length n) 0) e)
+    c.is_empty.ensures ∙ sym (ap (λ (n : Name). eqb (length n) 0) e)
     ∙ end_last (names_of ps) c.args.at (c.if-at-parts-2.true ∙ sym (length-map ps (λ x. x.now)))
 
 pub returns-else-at-parts-2 : goal.returns-else-at-parts-2

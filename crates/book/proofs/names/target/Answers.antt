@@ -3,8 +3,8 @@ use Rattle.std.proofs.lemmas.Bool.Decides.{nat_tests}
 use Rattle.book.proofs.Targets.{target_more, target_all}
 use Rattle.book.proofs.names.target.Goals as goal
 
-pub returns-then-is-named : goal.returns-then-is-named
-returns-then-is-named c =
+pub returns-then-is_named : goal.returns-then-is_named
+returns-then-is_named c =
     let e = target_more c.args.objects.now c.loop-place.place c.index-objects-place.result c.args.name.now
     c.loop-place-test.true in
     grind (arith, nat_tests, e, c.loop-place.invariant)

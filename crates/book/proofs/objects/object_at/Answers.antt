@@ -12,20 +12,20 @@ use Rattle.book.proofs.objects.object_at.Goals as goal
 pub returns : goal.returns
 returns c =
     let ls = lines_in c.args.parts.now in
-    let sonames = vec_items c.in-ok-sonames.sonames in
-    let defs = vec_items c.in-ok-definitions.definitions in
-    let refs = map reference_of (vec_items c.in-ok-references.references) in
-    let e = c.in-ok-definitions.at in
-    let f = c.in-ok-references.at in
+    let sonames = vec_items c.in_ok-sonames.sonames in
+    let defs = vec_items c.in_ok-definitions.definitions in
+    let refs = map reference_of (vec_items c.in_ok-references.references) in
+    let e = c.in_ok-definitions.at in
+    let f = c.in_ok-references.at in
     let soname =
     ap (λ (xs : List (Bor (List ℕ))). slice_get (names_of xs) 0) (sym c.deref.ensures.value)
     ∙ first_name _ _ c.first.ensures.item ∙ ap bytes_of (sym c.copied-soname.ensures) in
     let s =
     subst (λ (ds : List Definition). Section 4096 ref_row (ref_fits (map definition_of ds)) ls e refs f)
-    c.deref-2.ensures.value c.in-ok-references.ensures in
-    object_made c.args.flags ls c.args.from c.in-ok-sonames.at c.in-ok-needed.at
-    c.in-ok-needs.at c.in-ok-versions.at e f _ (bytes_of c.copied-soname.result) (names_of sonames)
-    (names_of (vec_items c.in-ok-needed.needed)) (map need_of (vec_items c.in-ok-needs.needs))
-    (names_of (vec_items c.in-ok-versions.versions)) (map definition_of defs) refs (lowest_flag c.args.flags) soname
-    c.in-ok-sonames.ensures c.in-ok-needed.ensures c.in-ok-needs.ensures
-    c.in-ok-versions.ensures c.in-ok-definitions.ensures s
+    c.deref-2.ensures.value c.in_ok-references.ensures in
+    object_made c.args.flags ls c.args.from c.in_ok-sonames.at c.in_ok-needed.at
+    c.in_ok-needs.at c.in_ok-versions.at e f _ (bytes_of c.copied-soname.result) (names_of sonames)
+    (names_of (vec_items c.in_ok-needed.needed)) (map need_of (vec_items c.in_ok-needs.needs))
+    (names_of (vec_items c.in_ok-versions.versions)) (map definition_of defs) refs (lowest_flag c.args.flags) soname
+    c.in_ok-sonames.ensures c.in_ok-needed.ensures c.in_ok-needs.ensures
+    c.in_ok-versions.ensures c.in_ok-definitions.ensures s

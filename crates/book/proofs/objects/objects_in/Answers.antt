@@ -10,28 +10,28 @@ use Rattle.book.proofs.ObjectsTold.{Gathered, gathered_more, gathered_ends, gath
 use Rattle.book.proofs.ObjectsTold.{object_told, object_untold, object_within}
 use Rattle.book.proofs.objects.objects_in.Goals as goal
 
-pub returns-in-default : goal.returns-in-default
-returns-in-default c =
+pub returns-in_default : goal.returns-in_default
+returns-in_default c =
     let ls = lines_in c.args.parts.now in
     let next = c.loop-heap.next in
-    let f = ap names_of c.deref.ensures.value ∙ c.in-ok-fields.ensures in
+    let f = ap names_of c.deref.ensures.value ∙ c.in_ok-fields.ensures in
     gathered_ends ls (objects_of (vec_items c.loop-heap.objects)) next c.loop-heap.invariant
-    (object_untold (get_or ls next []) (names_of c.deref.result.now) f c.in-default.ensures)
+    (object_untold (get_or ls next []) (names_of c.deref.result.now) f c.in_default.ensures)
 
-pub overflow-add-next : goal.overflow-add-next
-overflow-add-next c =
+pub overflow_add-next : goal.overflow_add-next
+overflow_add-next c =
     let ps = c.args.parts.now in
     let ls = lines_in ps in
     let next = c.loop-heap.next in
-    let f = ap names_of c.deref.ensures.value ∙ c.in-ok-fields.ensures in
+    let f = ap names_of c.deref.ensures.value ∙ c.in_ok-fields.ensures in
     let t = object_told (get_or ls next []) (names_of c.deref.result.now) c.in-Some.flags f c.in-Some.ensures in
     omega (arith, object_within ls next t.0, lines_most (names_of ps), length-map ps (λ x. x.now))
 
-pub object-at-requires : goal.object-at-requires
-object-at-requires c =
+pub object_at-requires : goal.object_at-requires
+object_at-requires c =
     let ls = lines_in c.args.parts.now in
     let next = c.loop-heap.next in
-    let f = ap names_of c.deref.ensures.value ∙ c.in-ok-fields.ensures in
+    let f = ap names_of c.deref.ensures.value ∙ c.in_ok-fields.ensures in
     let t = object_told (get_or ls next []) (names_of c.deref.result.now) c.in-Some.flags f c.in-Some.ensures in
     omega (arith, object_within ls next t.0)
 
@@ -39,15 +39,15 @@ pub loop-heap-preserved : goal.loop-heap-preserved
 loop-heap-preserved c =
     let ls = lines_in c.args.parts.now in
     let os = vec_items c.loop-heap.objects in
-    let o = c.in-ok-object.object in
+    let o = c.in_ok-object.object in
     let next = c.loop-heap.next in
-    let after = c.in-ok-object.after in
-    let f = ap names_of c.deref.ensures.value ∙ c.in-ok-fields.ensures in
+    let after = c.in_ok-object.after in
+    let f = ap names_of c.deref.ensures.value ∙ c.in_ok-fields.ensures in
     let t = object_told (get_or ls next []) (names_of c.deref.result.now) c.in-Some.flags f c.in-Some.ensures in
-    let b = subst (λ (n : ℕ). ObjectAt n ls (next + 1) (object_of o) after) t.1 c.in-ok-object.ensures in
+    let b = subst (λ (n : ℕ). ObjectAt n ls (next + 1) (object_of o) after) t.1 c.in_ok-object.ensures in
     let h : length (objects_of os) < 64 = omega (arith, length-map os object_of) in
     let g = gathered_more ls (objects_of os) next (object_of o) after c.loop-heap.invariant h t.0 b in
-    let m = ap objects_of c.in-ok-push.ensures.items ∙ map_push object_of os o in
+    let m = ap objects_of c.in_ok-push.ensures.items ∙ map_push object_of os o in
     subst (λ (xs : List Object). Gathered ls xs after) (sym m) g
 
 pub returns : goal.returns

@@ -10,14 +10,14 @@ returns g c =
     let os : List Object = g.S.Scope.objects c.args.scope.now in
     let o : ℕ = c.args.object in
     let k : ℕ = c.args.place in
-    let named : List Object = g.Of.Catalogue.meaning c.catalogue.result.now in
-    let versioned : List Object = g.Of.Catalogue.meaning c.catalogue-2.result.now in
+    let named : List Object = g.S.Of.Catalogue.meaning c.catalogue.result.now in
+    let versioned : List Object = g.S.Of.Catalogue.meaning c.catalogue-2.result.now in
     let n =
-    copied_front (asked_at named o (λ p. p.references) k (λ r. r.name)) (replicate 255 0) c.reference-name.new.out
-    c.reference-name.result (lawful_name named o k (g.Of.Catalogue.kept c.catalogue.result.now)) refl
-    c.reference-name.ensures.answer c.reference-name.ensures.buffer in
+    copied_front (asked_at named o (λ p. p.references) k (λ r. r.name)) (replicate 255 0) c.reference_name.new.out
+    c.reference_name.result (lawful_name named o k (g.S.Of.Catalogue.kept c.catalogue.result.now)) refl
+    c.reference_name.ensures.answer c.reference_name.ensures.buffer in
     let v =
     copied (reference_version versioned o k) (replicate 255 0) c.reference_version.new.out
-    c.reference_version.result (lawful_version versioned o k (g.Of.Catalogue.kept c.catalogue-2.result.now)) refl
+    c.reference_version.result (lawful_version versioned o k (g.S.Of.Catalogue.kept c.catalogue-2.result.now)) refl
     c.reference_version.ensures.answer c.reference_version.ensures.buffer in
     record { name = cc (told_at (object os o).references k no_reference (λ r. r.name)); version = cc (version_at os o k) }

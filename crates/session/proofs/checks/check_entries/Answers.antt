@@ -7,14 +7,14 @@ use Rattle.session.proofs.Asked.{ask_entry, entry_asked}
 use Rattle.session.proofs.Firsts.{first_from_more, first_from_found, first_from_none}
 use Rattle.session.proofs.checks.check_entries.Goals as goal
 
-pub returns-then-is-none : goal.returns-then-is-none
-returns-then-is-none g c =
+pub returns-then-is_none : goal.returns-then-is_none
+returns-then-is_none g c =
     let os : List Object = g.S.Scope.objects c.args.scope.now in
     let o : ℕ = c.args.object in
     let i : ℕ = c.loop-place.place in
     let l : i < length (object os o).needed = omega arith in
     first_from_found (ask_entry os o) (object os o).needed i (no_target os o) c.loop-place.invariant [] l (NoTarget o i)
-    (entry_asked os o i l _ _ c.needed_target.ensures c.if-is-none.ensures)
+    (entry_asked os o i l _ _ c.needed_target.ensures c.if-is_none.ensures)
 
 pub loop-place-preserved : goal.loop-place-preserved
 loop-place-preserved g c =
@@ -23,7 +23,7 @@ loop-place-preserved g c =
     let i : ℕ = c.loop-place.place in
     let l : i < length (object os o).needed = omega arith in
     first_from_more (ask_entry os o) (object os o).needed i (no_target os o) c.loop-place.invariant [] l
-    (entry_asked os o i l _ _ c.needed_target.ensures c.if-is-none.ensures)
+    (entry_asked os o i l _ _ c.needed_target.ensures c.if-is_none.ensures)
 
 pub returns : goal.returns
 returns g c =

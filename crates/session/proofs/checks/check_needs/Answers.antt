@@ -6,13 +6,13 @@ use Rattle.session.specs.Checks.{no_version}
 use Rattle.session.proofs.Firsts.{list_more, list_refused, first_none}
 use Rattle.session.proofs.checks.check_needs.Goals as goal
 
-pub returns-in-err-check-versions : goal.returns-in-err-check-versions
-returns-in-err-check-versions g c =
+pub returns-in_err-check_versions : goal.returns-in_err-check_versions
+returns-in_err-check_versions g c =
     let f : ℕ → Option Refusal = no_version (g.S.Scope.objects c.args.scope.now) (g.S.Scope.order c.args.scope.now) in
     let xs : List ℕ = listed c.args.list.now in
     let l : c.loop-place.place < length xs = omega arith in
     list_refused f xs c.loop-place.place c.at.result (first f xs) c.loop-place.invariant l c.at.ensures
-    c.in-err-check-versions.field-0.0 c.from-residual.result c.from-residual.ensures.1 c.in-err-check-versions.ensures
+    c.in_err-check_versions.field-0.0 c.from_residual.result c.from_residual.ensures.1 c.in_err-check_versions.ensures
 
 pub loop-place-preserved : goal.loop-place-preserved
 loop-place-preserved g c =
@@ -20,7 +20,7 @@ loop-place-preserved g c =
     let xs : List ℕ = listed c.args.list.now in
     let l : c.loop-place.place < length xs = omega arith in
     list_more f xs c.loop-place.place c.at.result (first f xs) c.loop-place.invariant l c.at.ensures
-    _ c.in-ok-check-versions.ensures
+    _ c.in_ok-check_versions.ensures
 
 pub returns : goal.returns
 returns g c =

@@ -6,10 +6,10 @@ use Rattle.session.specs.Checks.{unbound}
 use Rattle.session.proofs.Asked.{ask_reference, reference_asked}
 use Rattle.session.proofs.Firsts.{first_more, first_found, first_none}
 use Rattle.session.proofs.checks.check_references.Goals as goal
-use Rattle.session.proofs.checks.check_references.Goals.{else-not-is-weak-via-then-not-is-weak+else-is-none, else-not-is-weak-via-else-not-is-weak}
+use Rattle.session.proofs.checks.check_references.Goals.{else-not-is_weak-via-then-not-is_weak+else-is_none, else-not-is_weak-via-else-not-is_weak}
 
-pub returns-then-is-none : goal.returns-then-is-none
-returns-then-is-none g c =
+pub returns-then-is_none : goal.returns-then-is_none
+returns-then-is_none g c =
     let os : List Object = g.S.Scope.objects c.args.scope.now in
     let order : List ℕ = g.S.Scope.order c.args.scope.now in
     let o : ℕ = c.args.object in
@@ -29,7 +29,7 @@ returns-then-is-none g c =
           (Unbound o c.number.result)
           (reference_asked os (g.S.Scope.objects c.loop-place.scope) (g.S.Scope.objects c.bind-taken.new.scope) order
           (g.S.Scope.order c.loop-place.scope) o i inv.1 inv.2 s c.bind-taken.result false false
-          h.taken c.if-not-is-weak.ensures c.if-is-none.ensures
+          h.taken c.if-not-is_weak.ensures c.if-is_none.ensures
           ∙ ap (λ (v : ℕ). Some (Unbound o v)) n);
     }
 
@@ -50,10 +50,10 @@ loop-place-preserved g c =
       s,
       h.order ∙ inv.2,
       first_more (ask_reference os order o) (object os o).references i (unbound os order o) inv.3 no_reference l
-          (elim c.else-not-is-weak.branch [
-            | else-not-is-weak-via-then-not-is-weak+else-is-none w ↦
-                asked false true h.taken w.if-not-is-weak.ensures w.if-is-none.ensures
-            | else-not-is-weak-via-else-not-is-weak w ↦ asked true _ h.taken w.if-not-is-weak.ensures refl
+          (elim c.else-not-is_weak.branch [
+            | else-not-is_weak-via-then-not-is_weak+else-is_none w ↦
+                asked false true h.taken w.if-not-is_weak.ensures w.if-is_none.ensures
+            | else-not-is_weak-via-else-not-is_weak w ↦ asked true _ h.taken w.if-not-is_weak.ensures refl
           ]),
     )
 

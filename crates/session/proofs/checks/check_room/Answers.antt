@@ -16,7 +16,7 @@ returns-then-room-count g c =
     let i : ℕ = c.loop-place.place in
     let l : i < length order = omega arith in
     ap (λ (v : Option Refusal). answer v tt)
-    (sym (room_full os order i c.loop-place.room c.in-Some.object c.reference-count-count.result l c.in-Some.ensures c.reference-count-count.ensures c.if-room-count.true)
+    (sym (room_full os order i c.loop-place.room c.in-Some.object c.reference_count-count.result l c.in-Some.ensures c.reference_count-count.ensures c.if-room-count.true)
     ∙ c.loop-place.invariant.1)
 
 pub loop-place-preserved : goal.loop-place-preserved
@@ -29,7 +29,7 @@ loop-place-preserved g c =
       | in-Some+else-room-count w ↦ (
         omega (arith, w.room-is),
         ap (λ (n : ℕ). many_bindings os n (drop (i + 1) order)) w.room-is
-            ∙ room_more os order i c.loop-place.room w.in-Some.object w.reference-count-count.result l w.in-Some.ensures w.reference-count-count.ensures w.if-room-count.false
+            ∙ room_more os order i c.loop-place.room w.in-Some.object w.reference_count-count.result l w.in-Some.ensures w.reference_count-count.ensures w.if-room-count.false
             ∙ c.loop-place.invariant.1,
       )
       | in-None w ↦ absurd (place_none order i 0 l w.in-None.ensures)

@@ -6,13 +6,13 @@ use Rattle.session.specs.Checks.{no_target}
 use Rattle.session.proofs.Firsts.{list_more, list_refused, first_none}
 use Rattle.session.proofs.checks.check_targets.Goals as goal
 
-pub returns-in-err-check-entries : goal.returns-in-err-check-entries
-returns-in-err-check-entries g c =
+pub returns-in_err-check_entries : goal.returns-in_err-check_entries
+returns-in_err-check_entries g c =
     let f : ℕ → Option Refusal = no_target (g.S.Scope.objects c.args.scope.now) in
     let xs : List ℕ = listed c.args.list.now in
     let l : c.loop-place.place < length xs = omega arith in
     list_refused f xs c.loop-place.place c.at.result (first f xs) c.loop-place.invariant l c.at.ensures
-    c.in-err-check-entries.field-0.0 c.from-residual.result c.from-residual.ensures.1 c.in-err-check-entries.ensures
+    c.in_err-check_entries.field-0.0 c.from_residual.result c.from_residual.ensures.1 c.in_err-check_entries.ensures
 
 pub loop-place-preserved : goal.loop-place-preserved
 loop-place-preserved g c =
@@ -20,7 +20,7 @@ loop-place-preserved g c =
     let xs : List ℕ = listed c.args.list.now in
     let l : c.loop-place.place < length xs = omega arith in
     list_more f xs c.loop-place.place c.at.result (first f xs) c.loop-place.invariant l c.at.ensures
-    _ c.in-ok-check-entries.ensures
+    _ c.in_ok-check_entries.ensures
 
 pub returns : goal.returns
 returns g c =

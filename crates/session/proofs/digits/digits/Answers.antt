@@ -5,8 +5,8 @@ use Rattle.session.proofs.digits.digits.Goals as goal
 pub loop-left-init : goal.loop-left-init
 loop-left-init c = none_begun c.args.n c.args.table.now c.told-table
 
-pub overflow-sub-start : goal.overflow-sub-start
-overflow-sub-start c = place_above _ _ _ _ (omega arith) c.loop-left.invariant c.loop-left-test.true
+pub overflow_sub-start : goal.overflow_sub-start
+overflow_sub-start c = place_above _ _ _ _ (omega arith) c.loop-left.invariant c.loop-left-test.true
 
 pub loop-left-preserved : goal.loop-left-preserved
 loop-left-preserved c = one_more _ _ _ _ (omega arith) c.loop-left.invariant c.loop-left-test.true

@@ -13,5 +13,5 @@ returns g c =
     record {
       lawful = c.loop-object.invariant.0;
       objects = c.loop-object.invariant.1;
-      order = none_first (g.S.Scope.order c.loop-object.scope) c.in-default.ensures;
+      order = none_first (g.S.Scope.order c.loop-object.scope) c.in_default.ensures;
     }

@@ -15,15 +15,15 @@ returns-in-Err g c =
     let new : List ℕ = listed c.args.list.now in
     let said : Err c.in-Err.refusal ≡ answer {A = Unit {0}} (batch_refusal os order new) tt =
     c.in-Err.ensures.answer
-    ∙ ap₂ (λ p o. answer {A = Unit {0}} (check_refusal p o new) tt) c.join-all.ensures.objects c.join-all.ensures.order in
+    ∙ ap₂ (λ p o. answer {A = Unit {0}} (check_refusal p o new) tt) c.join_all.ensures.objects c.join_all.ensures.order in
     let b : batch_refusal os order new ≡ Some c.in-Err.refusal = refused _ _ said in
-    let back : g.S.Scope.order c.leave-all.new.scope ≡ order =
-    c.leave-all.ensures.order
-    ∙ ap (filter (λ o. not (among o new))) (c.check-all.ensures.order ∙ c.join-all.ensures.order)
+    let back : g.S.Scope.order c.leave_all.new.scope ≡ order =
+    c.leave_all.ensures.order
+    ∙ ap (filter (λ o. not (among o new))) (c.check_all.ensures.order ∙ c.join_all.ensures.order)
     ∙ left_alone order new c.requires.apart in
     record {
-      lawful = c.leave-all.ensures.lawful;
-      objects = c.leave-all.ensures.objects ∙ c.check-all.ensures.objects ∙ c.join-all.ensures.objects;
+      lawful = c.leave_all.ensures.lawful;
+      objects = c.leave_all.ensures.objects ∙ c.check_all.ensures.objects ∙ c.join_all.ensures.objects;
       answer = said;
       order = back ∙ sym (ap (λ r. after r order (order ++ new)) b);
     }

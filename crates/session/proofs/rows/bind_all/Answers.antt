@@ -22,8 +22,8 @@ added :
     recorded now u ≡ recorded now t ++ bindings_of now later o → recorded os u ≡ recorded os t ++ bindings_of os order x
 added os now order later o x t u s r e h = rw (← s, ← r, ← e) h
 
-pub bind-object-requires : goal.bind-object-requires
-bind-object-requires g c =
+pub bind_object-requires : goal.bind_object-requires
+bind_object-requires g c =
     let os : List Object = g.S.Scope.objects c.args.scope.now in
     let xs : List ℕ = listed c.args.list.now in
     let inv = c.loop-place.invariant in
@@ -40,10 +40,10 @@ loop-place-preserved g c =
     let i : ℕ = c.loop-place.place in
     let o : ℕ = c.at.result in
     let inv = c.loop-place.invariant in
-    let h = c.bind-object.ensures in
+    let h = c.bind_object.ensures in
     let l : i < length xs = omega arith in
     let e = counted os now xs i o l inv.1 c.at.ensures in
-    let r = added os now order (g.S.Scope.order c.loop-place.scope) o (get_or xs i 0) c.loop-place.rows c.bind-object.new.rows inv.1 inv.2 c.at.ensures h.rows in (
+    let r = added os now order (g.S.Scope.order c.loop-place.scope) o (get_or xs i 0) c.loop-place.rows c.bind_object.new.rows inv.1 inv.2 c.at.ensures h.rows in (
       h.lawful,
       h.objects ∙ inv.1,
       h.order ∙ inv.2,

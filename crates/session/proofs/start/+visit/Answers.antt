@@ -12,7 +12,7 @@ use Rattle.scope.proofs.Changes.{lawful_push, room_left}
 use Rattle.session.proofs.Walking.{lawful_known, lawful_length}
 use Rattle.session.proofs.Starting.{marked, entered_done, skipped_seen, skipped_old, skipped_deep}
 use Rattle.session.proofs.start.+visit.Goals as goal
-use Rattle.session.proofs.start.+visit.Goals.{in-Some, in-default, else-depth-gt0-via-then-depth-gt0+then-has+else-not-has, else-depth-gt0-via-then-depth-gt0+else-has, else-depth-gt0-via-else-depth-gt0}
+use Rattle.session.proofs.start.+visit.Goals.{in-Some, in_default, else-depth-gt0-via-then-depth-gt0+then-has+else-not-has, else-depth-gt0-via-then-depth-gt0+else-has, else-depth-gt0-via-else-depth-gt0}
 
 pub push-requires : goal.push-requires
 push-requires g t c =
@@ -49,7 +49,7 @@ loop-place-preserved g t c =
     let rest : List ℕ = somes (map (target os) (drop (i + 1) (object os o).needed)) in
     let size : ObjectList → ℕ = λ v. length (listed v) in
     let l : i < length (object os o).needed = omega arith in
-    elim c.match-needed-target.branch [
+    elim c.match-needed_target.branch [
       | in-Some w ↦ (
         ap (each f rest) (ap₂ marks w.entered-is w.finished-is ∙ w.visit.ensures.marks)
             ∙ ap (λ (us : List ℕ). each f us m) (sym (needed_more os o i l (Some w.in-Some.target) w.in-Some.ensures))
@@ -57,9 +57,9 @@ loop-place-preserved g t c =
         subst (λ (v : List ℕ). LawfulOrder os v) (sym (ap listed w.entered-is)) w.visit.ensures.marked,
         omega (arith, w.visit.ensures.room, c.loop-place.invariant.2, ap size w.entered-is, ap size w.finished-is),
       )
-      | in-default w ↦ (
+      | in_default w ↦ (
         ap (each f rest) (ap₂ marks w.entered-is w.finished-is)
-            ∙ ap (λ (us : List ℕ). each f us m) (sym (needed_more os o i l None w.in-default.ensures))
+            ∙ ap (λ (us : List ℕ). each f us m) (sym (needed_more os o i l None w.in_default.ensures))
             ∙ c.loop-place.invariant.0,
         subst (λ (v : List ℕ). LawfulOrder os v) (sym (ap listed w.entered-is)) c.loop-place.invariant.1,
         omega (arith, c.loop-place.invariant.2, ap size w.entered-is, ap size w.finished-is),

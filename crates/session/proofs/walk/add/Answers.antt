@@ -19,7 +19,7 @@ returns-then-not-has g c =
       list =
           c.push.ensures
           ∙ sym (grow_one (g.S.Scope.order c.args.scope.now) xs c.args.object
-          (sym c.if-not-is-loaded.ensures) (sym c.if-not-has.ensures));
+          (sym c.if-not-is_loaded.ensures) (sym c.if-not-has.ensures));
       lawful =
           lawful_push os xs _ c.args.object c.requires.listed c.requires.known (sym c.if-not-has.ensures)
           c.push.ensures;

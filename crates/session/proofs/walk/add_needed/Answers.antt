@@ -9,7 +9,7 @@ use Rattle.scope.specs.Orders.{LawfulOrder}
 use Rattle.session.proofs.Targets.{needed_below, needed_more}
 use Rattle.session.proofs.Walking.{grow_on}
 use Rattle.session.proofs.walk.add_needed.Goals as goal
-use Rattle.session.proofs.walk.add_needed.Goals.{in-Some, in-default}
+use Rattle.session.proofs.walk.add_needed.Goals.{in-Some, in_default}
 
 pub add-requires : goal.add-requires
 add-requires g c =
@@ -30,7 +30,7 @@ loop-place-preserved g c =
     let xs : List ℕ = listed c.loop-place.list in
     let rest : List ℕ = somes (map (target os) (drop (i + 1) (object os o).needed)) in
     let l : i < length (object os o).needed = omega arith in
-    elim c.match-needed-target.branch [
+    elim c.match-needed_target.branch [
       | in-Some w ↦
           let t : ℕ = w.in-Some.target in (
             ap (λ (l : List ℕ). grow old l rest) (ap listed w.list-is ∙ w.add.ensures.list)
@@ -38,9 +38,9 @@ loop-place-preserved g c =
                 ∙ ap (grow old xs) (sym (needed_more os o i l (Some t) w.in-Some.ensures)) ∙ c.loop-place.invariant.0,
             subst (λ (l : List ℕ). LawfulOrder os l) (sym (ap listed w.list-is)) w.add.ensures.lawful,
           )
-      | in-default w ↦ (
+      | in_default w ↦ (
         ap (λ (l : List ℕ). grow old l rest) (ap listed w.list-is)
-            ∙ ap (grow old xs) (sym (needed_more os o i l None w.in-default.ensures)) ∙ c.loop-place.invariant.0,
+            ∙ ap (grow old xs) (sym (needed_more os o i l None w.in_default.ensures)) ∙ c.loop-place.invariant.0,
         subst (λ (l : List ℕ). LawfulOrder os l) (sym (ap listed w.list-is)) c.loop-place.invariant.1,
       )
     ]

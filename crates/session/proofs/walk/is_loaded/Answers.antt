@@ -3,7 +3,7 @@ use Rattle.std.proofs.lemmas.List.{at_drop_all}
 use Rattle.graph.specs.Graph.{among}
 use Rattle.session.proofs.Targets.{nth_answers, among_at, among_past}
 use Rattle.session.proofs.walk.is_loaded.Goals as goal
-use Rattle.session.proofs.walk.is_loaded.Goals.{in-Some+else-object-item, in-default}
+use Rattle.session.proofs.walk.is_loaded.Goals.{in-Some+else-object-item, in_default}
 
 pub returns-then-object-item : goal.returns-then-object-item
 returns-then-object-item g c =
@@ -19,7 +19,7 @@ loop-place-preserved g c =
       | in-Some+else-object-item w ↦
           among_past c.args.object order i w.in-Some.item w.in-Some.ensures w.if-object-item.false
           ∙ c.loop-place.invariant
-      | in-default w ↦ absurd (nth_answers order i (omega arith) w.in-default.ensures)
+      | in_default w ↦ absurd (nth_answers order i (omega arith) w.in_default.ensures)
     ]
 
 pub returns : goal.returns

@@ -9,12 +9,12 @@ use Rattle.session.specs.Walks.{new_list}
 use Rattle.session.proofs.Targets.{targets_bounded}
 use Rattle.session.proofs.walk.new_list.Goals as goal
 
-pub add-all-requires : goal.add-all-requires
-add-all-requires g c =
+pub add_all-requires : goal.add_all-requires
+add_all-requires g c =
     let os : List Object = g.S.Scope.objects c.args.scope.now in
     record {
       lawful = c.requires.lawful;
-      listed = lawful_none os _ c.new_list.ensures;
+      listed = lawful_none os _ c.new-list.ensures;
       known = c.requires.known;
     }
 
@@ -24,11 +24,11 @@ loop-place-init g c =
     let old : List ℕ = g.S.Scope.order c.args.scope.now in
     let from : List ℕ = c.args.from.now in
     let n : length os - 0 ≡ length os = omega arith in
-    let begun : listed c.add-all.new.list ≡ grow old [] from =
-    c.add-all.ensures.list ∙ ap (λ (l : List ℕ). grow old l from) c.new_list.ensures in (
-      ap (λ (k : ℕ). walk (targets os) old k [] (listed c.add-all.new.list)) n
+    let begun : listed c.add_all.new.list ≡ grow old [] from =
+    c.add_all.ensures.list ∙ ap (λ (l : List ℕ). grow old l from) c.new-list.ensures in (
+      ap (λ (k : ℕ). walk (targets os) old k [] (listed c.add_all.new.list)) n
           ∙ ap (walk (targets os) old (length os) []) begun,
-      c.add-all.ensures.lawful,
+      c.add_all.ensures.lawful,
     )
 
 pub loop-place-smaller : goal.loop-place-smaller
@@ -49,12 +49,12 @@ loop-place-preserved g c =
     let xs : List ℕ = listed c.loop-place.list in
     let i : ℕ = c.loop-place.place in
     let l : i < length xs = omega arith in
-    let grown : listed c.add-needed.new.list ≡ grow old xs (targets os (get_or xs i 0)) =
-    c.add-needed.ensures.list ∙ ap (λ (o : ℕ). grow old xs (targets os o)) c.at-object.ensures in (
+    let grown : listed c.add_needed.new.list ≡ grow old xs (targets os (get_or xs i 0)) =
+    c.add_needed.ensures.list ∙ ap (λ (o : ℕ). grow old xs (targets os o)) c.at-object.ensures in (
       ap (λ (z : List ℕ). walk (targets os) old (length os - (i + 1)) (take (i + 1) z) (drop (i + 1) z)) grown
           ∙ turn_list (targets os) old c.args.from.now (length os) (targets_bounded os) c.requires.known xs i
           c.loop-place.invariant.0 l,
-      c.add-needed.ensures.lawful,
+      c.add_needed.ensures.lawful,
     )
 
 pub returns : goal.returns

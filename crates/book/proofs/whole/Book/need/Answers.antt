@@ -7,7 +7,7 @@ use Rattle.book.proofs.whole.Book.need.Goals as goal
 pub returns-in-Some : goal.returns-in-Some
 returns-in-Some c =
     entry_found (λ o. o.needs) need_of (vec_items c.args.self.now.objects) c.args.number c.args.place
-    c.in-Some.ensures refl c.as-slice.ensures.value c.entry.ensures
+    c.in-Some.ensures refl c.as_slice.ensures.value c.entry.ensures
 
 pub returns-in-None : goal.returns-in-None
 returns-in-None c =

@@ -6,7 +6,7 @@ use Rattle.book.proofs.whole.Book.needed.Goals as goal
 pub returns-in-Some : goal.returns-in-Some
 returns-in-Some c =
     entry_found (λ o. o.needed) (λ x. x.now) (vec_items c.args.self.now.objects) c.args.number c.args.place
-    c.in-Some.ensures refl c.as-slice.ensures.value c.entry.ensures
+    c.in-Some.ensures refl c.as_slice.ensures.value c.entry.ensures
 
 pub returns-in-None : goal.returns-in-None
 returns-in-None c =

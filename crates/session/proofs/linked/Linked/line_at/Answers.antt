@@ -11,33 +11,33 @@ returns-in-Some g c =
     load_at (g.S.Scope.objects s) (g.S.Scope.order s) c.args.self.now.tables c.args.n c.in-Some.object
     c.in-Some.ensures
 
-pub overflow-sub-start : goal.overflow-sub-start
-overflow-sub-start g c =
-    omega (arith, past_from_none (g.S.Scope.order c.args.self.now.scope) c.args.n c.in-default.ensures)
+pub overflow_sub-start : goal.overflow_sub-start
+overflow_sub-start g c =
+    omega (arith, past_from_none (g.S.Scope.order c.args.self.now.scope) c.args.n c.in_default.ensures)
 
 pub returns-then-start-len : goal.returns-then-start-len
 returns-then-start-len g c =
     let s = c.args.self.now.scope in
-    let p = past_from_none (g.S.Scope.order s) c.args.n c.in-default.ensures in
+    let p = past_from_none (g.S.Scope.order s) c.args.n c.in_default.ensures in
     init_at (g.S.Scope.objects s) (g.S.Scope.order s) c.args.self.now.tables c.args.n
     (c.args.n - c.len.result) _ (omega arith) (omega arith) c.at-then-start-len.ensures
 
 pub returns-then-place-rows : goal.returns-then-place-rows
 returns-then-place-rows g c =
     let s = c.args.self.now.scope in
-    let p = past_from_none (g.S.Scope.order s) c.args.n c.in-default.ensures in
+    let p = past_from_none (g.S.Scope.order s) c.args.n c.in_default.ensures in
     let k : ℕ = c.args.n - c.len.result - c.len-3.result in
-    let rows : List Row = c.as-slice-rows.result.now in
+    let rows : List Row = c.as_slice-rows.result.now in
     let zero : Row = record { object = 0; place = 0; taken = None } in
     binding_at (g.S.Scope.objects s) (g.S.Scope.order s) c.args.self.now.tables c.args.n k (get_or rows k zero) _
     (omega arith)
-    (sym (slice_get-get_or rows k zero c.if-place-rows.true) ∙ ap (λ (rs : List Row). slice_get rs k) c.as-slice-rows.ensures.value)
-    c.row-line.ensures
+    (sym (slice_get-get_or rows k zero c.if-place-rows.true) ∙ ap (λ (rs : List Row). slice_get rs k) c.as_slice-rows.ensures.value)
+    c.row_line.ensures
 
 pub returns-else-place-rows : goal.returns-else-place-rows
 returns-else-place-rows g c =
     let s = c.args.self.now.scope in
-    let p = past_from_none (g.S.Scope.order s) c.args.n c.in-default.ensures in
-    let l = ap length c.as-slice-rows.ensures.value in
+    let p = past_from_none (g.S.Scope.order s) c.args.n c.in_default.ensures in
+    let l = ap length c.as_slice-rows.ensures.value in
     past_all (g.S.Scope.objects s) (g.S.Scope.order s) c.args.self.now.tables c.args.n
     (c.args.n - c.len.result - c.len-3.result) (omega arith) (omega arith)

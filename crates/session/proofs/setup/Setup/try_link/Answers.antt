@@ -14,30 +14,30 @@ use Rattle.session.proofs.Linking.{known_from, link_refused, link_granted, many_
 use Rattle.session.proofs.Rooms.{both_fit}
 use Rattle.session.proofs.setup.Setup.try_link.Goals as goal
 
-pub new-list-list-requires : goal.new-list-list-requires
-new-list-list-requires g c =
+pub new_list-list-requires : goal.new_list-list-requires
+new_list-list-requires g c =
     let os : List Object = g.S.Scope.objects c.args.self.now.scope in
     let here : c.args.root < length os =
     let e = ap length c.catalogue.ensures in omega (arith, e, c.count.ensures, c.if-known-count.false) in
     record {
       lawful = c.requires.lawful;
       known = known_from os c.args.root (listed c.args.self.now.tables.preloads) _ here c.requires.setup.preloads
-          (c.as-slice.ensures ∙ c.link-from-from.ensures);
+          (c.as_slice.ensures ∙ c.link_from-from.ensures);
     }
 
-pub returns-in-err-load : goal.returns-in-err-load
-returns-in-err-load g c =
+pub returns-in_err-load : goal.returns-in_err-load
+returns-in_err-load g c =
     let os : List Object = g.S.Scope.objects c.args.self.now.scope in
     let order : List ℕ = g.S.Scope.order c.args.self.now.scope in
-    let list : List ℕ = listed c.new-list-list.result in
+    let list : List ℕ = listed c.new_list-list.result in
     let t : Tables = c.args.self.now.tables in
     let here : c.args.root < length os =
     let e = ap length c.catalogue.ensures in omega (arith, e, c.count.ensures, c.if-known-count.false) in
     let lists : list ≡ link_list os (view os order t) c.args.root =
-    c.new-list-list.ensures.list ∙ ap (new_list os order) (c.as-slice.ensures ∙ c.link-from-from.ensures) in
-    let p = err_from_is_err_and c.from-residual.result c.from-residual.ensures.1 in
+    c.new_list-list.ensures.list ∙ ap (new_list os order) (c.as_slice.ensures ∙ c.link_from-from.ensures) in
+    let p = err_from_is_err_and c.from_residual.result c.from_residual.ensures.1 in
     let said : Err p.0 ≡ answer {A = Unit {0}} (batch_refusal os order list) tt =
-    ap Err p.2 ∙ c.in-err-load.ensures.answer in
+    ap Err p.2 ∙ c.in_err-load.ensures.answer in
     let done = link_refused os order list t c.args.root here lists _ c.load.ensures.order p.0 said in
     rw p.1 (record {
       lawful = c.load.ensures.lawful;
@@ -46,12 +46,12 @@ returns-in-err-load g c =
       next = done.1;
     })
 
-pub bind-all-requires : goal.bind-all-requires
-bind-all-requires g c =
+pub bind_all-requires : goal.bind_all-requires
+bind_all-requires g c =
     let os : List Object = g.S.Scope.objects c.args.self.now.scope in
     let order : List ℕ = g.S.Scope.order c.args.self.now.scope in
-    let list : List ℕ = listed c.new-list-list.result in
-    let n : batch_refusal os order list ≡ None = granted _ _ c.in-ok-load.ensures.answer in
+    let list : List ℕ = listed c.new_list-list.result in
+    let n : batch_refusal os order list ≡ None = granted _ _ c.in_ok-load.ensures.answer in
     let few : references_of_all os order + references_of_all os list ≤ 4096 = both_fit os order list (many_fits os order list n) in
     let same : references_of_all (g.S.Scope.objects c.load.new.scope) list ≡ references_of_all os list =
     ap (λ cs. references_of_all cs list) c.load.ensures.objects in
@@ -61,29 +61,29 @@ pub returns : goal.returns
 returns g c =
     let os : List Object = g.S.Scope.objects c.args.self.now.scope in
     let order : List ℕ = g.S.Scope.order c.args.self.now.scope in
-    let list : List ℕ = listed c.new-list-list.result in
+    let list : List ℕ = listed c.new_list-list.result in
     let t : Tables = c.args.self.now.tables in
     let here : c.args.root < length os =
     let e = ap length c.catalogue.ensures in omega (arith, e, c.count.ensures, c.if-known-count.false) in
     let lists : list ≡ link_list os (view os order t) c.args.root =
-    c.new-list-list.ensures.list ∙ ap (new_list os order) (c.as-slice.ensures ∙ c.link-from-from.ensures) in
-    let order' : List ℕ = g.S.Scope.order c.bind-all.new.scope in
-    let kept : g.S.Scope.objects c.bind-all.new.scope ≡ os = c.bind-all.ensures.objects ∙ c.load.ensures.objects in
+    c.new_list-list.ensures.list ∙ ap (new_list os order) (c.as_slice.ensures ∙ c.link_from-from.ensures) in
+    let order' : List ℕ = g.S.Scope.order c.bind_all.new.scope in
+    let kept : g.S.Scope.objects c.bind_all.new.scope ≡ os = c.bind_all.ensures.objects ∙ c.load.ensures.objects in
     let t' : Tables =
-    record { root = Some c.args.root; preloads = t.preloads; started = c.start-order-self.result; bindings = c.bind-all.new.rows } in
+    record { root = Some c.args.root; preloads = t.preloads; started = c.start_order-self.result; bindings = c.bind_all.new.rows } in
     let from : List ℕ = listed t.preloads ++ (c.args.root ∷ []) in
     let started : listed t'.started ≡ start_order os list from =
-    c.start-order-self.ensures.order
-    ∙ ap₂ (λ cs xs. start_order cs list xs) kept (c.as-slice-2.ensures ∙ c.start-from-starts.ensures) in
+    c.start_order-self.ensures.order
+    ∙ ap₂ (λ cs xs. start_order cs list xs) kept (c.as_slice-2.ensures ∙ c.start_from-starts.ensures) in
     let bound : recorded os t'.bindings ≡ recorded os t.bindings ++ bindings_of_all os order' list =
     subst (λ cs. recorded cs t'.bindings ≡ recorded cs t.bindings ++ bindings_of_all cs (g.S.Scope.order c.load.new.scope) list)
-    c.load.ensures.objects c.bind-all.ensures.rows
-    ∙ ap (λ o. recorded os t.bindings ++ bindings_of_all os o list) (sym c.bind-all.ensures.order) in
+    c.load.ensures.objects c.bind_all.ensures.rows
+    ∙ ap (λ o. recorded os t.bindings ++ bindings_of_all os o list) (sym c.bind_all.ensures.order) in
     let done =
-    link_granted os order list t c.args.root here lists order' (c.bind-all.ensures.order ∙ c.load.ensures.order) t'
-    c.requires.setup c.in-ok-load.ensures.answer refl refl started bound in
+    link_granted os order list t c.args.root here lists order' (c.bind_all.ensures.order ∙ c.load.ensures.order) t'
+    c.requires.setup c.in_ok-load.ensures.answer refl refl started bound in
     record {
-      lawful = c.bind-all.ensures.lawful;
+      lawful = c.bind_all.ensures.lawful;
       objects = kept;
       answer = done.0;
       next = done.1;
