@@ -11,10 +11,10 @@ loop-n-preserved g c =
     let s = c.args.session.now in
     let ls : List Line = lines (view (g.S.Scope.objects s.scope) (g.S.Scope.order s.scope) s.tables).linkage in
     let bytes : List ℕ = line_bytes ls c.loop-n.n in
-    let here : c.loop-n.n < length ls = omega (arith, c.line-count-n-end.ensures, c.loop-n-test.true) in
+    let here : c.loop-n.n < length ls = omega (arith, c.line_count-n-end.ensures, c.loop-n-test.true) in
     let fits : length bytes ≤ length c.loop-n.line = omega (arith, c.line.ensures.fits, c.loop-n.invariant.1) in
-    let added = front bytes c.loop-n.line _ _ fits c.in-ok-length.ensures.answer c.line.ensures.buffer in (
-      c.in-ok-extend-from-slice.ensures.items
+    let added = front bytes c.loop-n.line _ _ fits c.in_ok-length.ensures.answer c.line.ensures.buffer in (
+      c.in_ok-extend_from_slice.ensures.items
           ∙ ap₂ (λ xs ys. xs ++ ys) c.loop-n.invariant.0 added ∙ sym (report_more ls c.loop-n.n here),
       omega (arith, c.line.auto.out, c.loop-n.invariant.1),
     )
@@ -23,5 +23,5 @@ pub returns : goal.returns
 returns g c =
     let s = c.args.session.now in
     let ls : List Line = lines (view (g.S.Scope.objects s.scope) (g.S.Scope.order s.scope) s.tables).linkage in
-    let past : length ls ≤ c.loop-n.n = omega (arith, c.line-count-n-end.ensures, c.loop-n-test.false) in
+    let past : length ls ≤ c.loop-n.n = omega (arith, c.line_count-n-end.ensures, c.loop-n-test.false) in
     ap Ok (sym (c.loop-n.invariant.0 ∙ ap report (take_all c.loop-n.n ls past)))
