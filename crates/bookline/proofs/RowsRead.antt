@@ -2,7 +2,7 @@
 use Rattle.std.proofs.Common.{◌≡◌, ℕ, ◌/◌, ◌%◌, ◌<◌, ◌≤◌, Bool, true, false, cond, ◌&&◌, eqb, leb, List, [], length, get_or, Some, None, codes, Option, sym, refl, ap, ◌∙◌, arith, Bor}
 use lib.ListN.{length-map}
 use Rattle.std.proofs.lemmas.List.{get_or-map, get_or_past}
-use Rattle.std.proofs.lemmas.Bool.{cond-true, false≢true}
+use Rattle.std.proofs.lemmas.Bool.{false≢true}
 use Rattle.elf.specs.Names.{Name, only_if, names_of}
 use Rattle.elf.proofs.Choices.{only_if_some, only_if_none}
 use Rattle.elf.specs.Meaning.{Definition, Reference}

@@ -1,5 +1,4 @@
 -- What the stored symbols and version needs mean.
-use Rattle.std.specs.Prelude.{List, map}
 use Rattle.elf.specs.declared.symbol.Definition.{Definition as StoredDefinition}
 use Rattle.elf.specs.declared.symbol.Reference.{Reference as StoredReference}
 use Rattle.elf.specs.declared.symbol.VersionNeed.{VersionNeed as StoredNeed}

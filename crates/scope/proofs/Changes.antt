@@ -2,7 +2,7 @@
 use Rattle.std.proofs.Common.{◌≡◌, ℕ, ◌<◌, false, not, eqb, List, [], ◌∷◌, ◌++◌, length, sym, subst, inl, inr, arith}
 use Rattle.std.proofs.lemmas.List.{length_push}
 use Rattle.graph.specs.Graph.{among, Below}
-use Rattle.graph.proofs.Members.{in_none, in_one, in_append, in_same, not_in, distinct_push}
+use Rattle.graph.proofs.Members.{in_none, in_one, in_append, not_in, distinct_push}
 use Rattle.graph.proofs.Room.{distinct_length}
 use Rattle.graph.proofs.Laws.{kept_in, distinct_kept}
 use Rattle.elf.specs.Meaning.{Object}

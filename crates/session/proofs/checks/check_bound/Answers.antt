@@ -1,5 +1,4 @@
-use Rattle.std.proofs.Common.{◌≡◌, ℕ, ◌<◌, List, length, Option, ◌∙◌, ap₂, arith}
-use Rattle.elf.specs.declared.refusal.Refusal.{Refusal}
+use Rattle.std.proofs.Common.{ℕ, ◌<◌, List, length, ◌∙◌, ap₂, arith}
 use Rattle.elf.specs.Meaning.{Object}
 use Rattle.elf.specs.Names.{first}
 use Rattle.elf.specs.Refusals.{answer}

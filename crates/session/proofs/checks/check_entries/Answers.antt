@@ -1,6 +1,5 @@
-use Rattle.std.proofs.Common.{◌≡◌, ℕ, ◌<◌, List, [], length, ap, ◌∙◌, arith}
+use Rattle.std.proofs.Common.{ℕ, ◌<◌, List, [], length, arith}
 use Rattle.elf.specs.declared.refusal.Refusal.TheVariants.{NoTarget}
-use Rattle.elf.specs.Names.{Name}
 use Rattle.elf.specs.Meaning.{Object, object}
 use Rattle.session.specs.Checks.{no_target}
 use Rattle.session.proofs.Asked.{ask_entry, entry_asked}

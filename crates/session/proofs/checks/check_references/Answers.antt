@@ -1,5 +1,4 @@
-use Rattle.std.proofs.Common.{◌≡◌, ℕ, ◌<◌, true, false, List, length, Some, Option, sym, refl, ap, ◌∙◌, arith}
-use Rattle.elf.specs.declared.refusal.Refusal.{Refusal}
+use Rattle.std.proofs.Common.{◌≡◌, ℕ, ◌<◌, true, false, List, length, Some, sym, refl, ap, ◌∙◌, arith}
 use Rattle.elf.specs.declared.refusal.Refusal.TheVariants.{Unbound}
 use Rattle.elf.specs.Meaning.{Object, object, no_reference, reference_at}
 use Rattle.session.specs.Checks.{unbound}

@@ -1,4 +1,4 @@
-use Rattle.std.proofs.Common.{◌≡◌, ℕ, ◌<◌, List, length, Option, arith}
+use Rattle.std.proofs.Common.{ℕ, ◌<◌, List, length, Option, arith}
 use Rattle.elf.specs.declared.refusal.Refusal.{Refusal}
 use Rattle.elf.specs.Names.{first}
 use Rattle.scope.specs.Listed.{listed}

@@ -1,4 +1,4 @@
-use Rattle.std.proofs.Common.{◌≡◌, ℕ, not, List, ◌++◌, Some, Err, filter, sym, ap, ◌∙◌, subst, ap₂}
+use Rattle.std.proofs.Common.{◌≡◌, ℕ, not, List, ◌++◌, Some, Err, filter, sym, ap, ◌∙◌, ap₂}
 use Rattle.graph.specs.Graph.{among}
 use Rattle.elf.specs.Meaning.{Object}
 use Rattle.elf.specs.Refusals.{answer, after}

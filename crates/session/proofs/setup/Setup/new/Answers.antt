@@ -1,4 +1,4 @@
-use Rattle.std.proofs.Common.{ℕ, ◌≤◌, List, length, sym, subst, arith}
+use Rattle.std.proofs.Common.{◌≤◌, List, length, sym, subst, arith}
 use Rattle.elf.specs.Meaning.{Object}
 use Rattle.scope.proofs.Changes.{lawful_none}
 use Rattle.session.specs.View.{InSetup}

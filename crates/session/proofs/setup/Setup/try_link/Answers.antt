@@ -1,11 +1,11 @@
-use Rattle.std.proofs.Common.{◌≡◌, ℕ, ◌+◌, ◌<◌, ◌≤◌, List, [], ◌∷◌, ◌++◌, length, Some, None, Ok, Err, sym, refl, ap, ◌∙◌, subst, ap₂, arith}
+use Rattle.std.proofs.Common.{◌≡◌, ℕ, ◌+◌, ◌<◌, ◌≤◌, List, [], ◌∷◌, ◌++◌, length, Some, None, Err, sym, refl, ap, ◌∙◌, subst, ap₂, arith}
 use Rattle.std.proofs.lemmas.Result.{err_from_is_err_and}
 use Rattle.elf.specs.Meaning.{Object}
 use Rattle.elf.specs.Refusals.{answer}
 use Rattle.scope.specs.Listed.{listed}
 use Rattle.session.specs.Binding.{bindings_of_all}
 use Rattle.session.specs.Calls.{link_list}
-use Rattle.session.specs.Checks.{batch_refusal, many_bindings, references_of_all}
+use Rattle.session.specs.Checks.{batch_refusal, references_of_all}
 use Rattle.session.specs.View.{view, recorded}
 use Rattle.session.specs.Walks.{new_list, start_order}
 use Rattle.session.specs.declared.table.Tables.{Tables}

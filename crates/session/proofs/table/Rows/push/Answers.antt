@@ -1,4 +1,4 @@
-use Rattle.std.proofs.Common.{◌≡◌, ◌<◌, List, map, length, refl, ap, ◌∙◌, arith, rules}
+use Rattle.std.proofs.Common.{◌<◌, map, length, refl, ap, ◌∙◌, rules}
 use Rattle.std.proofs.lemmas.List.{take_more_set, map_push}
 use Rattle.session.specs.View.{binding_of}
 use Rattle.session.proofs.table.Rows.push.Goals as goal
