@@ -46,6 +46,8 @@ AllAlike [] (m ∷ ms) = ⊥
 AllAlike (l ∷ ls) [] = ⊥
 AllAlike (l ∷ ls) (m ∷ ms) = Alike l m × AllAlike ls ms
 
+-- The next three are stated only: no contract names them, so nothing proves them yet.
+
 -- What is admitted keeps every rule of the format.
 abbrev pub AdmittedIsBook : Type 0
 AdmittedIsBook = (text : List ℕ) (c : List Object) → read_book text ≡ Ok c → IsBook text c
@@ -61,6 +63,6 @@ BooksOfOneCatalogue =
     (s t : List ℕ) (c : List Object) → read_book s ≡ Ok c → read_book t ≡ Ok c
     → (ls : List Fields) × (ms : List Fields) × (s ≡ text_of (book_line ∷ ls)) × (t ≡ text_of (book_line ∷ ms)) × AllAlike ls ms
 
--- What is admitted is a lawful catalogue.
+-- Proved on the contract of `theorems`: what is admitted is a lawful catalogue.
 abbrev pub AdmittedIsLawful : Type 0
 AdmittedIsLawful = (text : List ℕ) (c : List Object) → read_book text ≡ Ok c → Lawful c

@@ -2,7 +2,6 @@
 ghost use Rattle.std.specs.Prelude.{◌≡◌, []};
 ghost use Rattle.scope.specs.Listed.{listed};
 ghost use Rattle.scope.specs.Orders.{LawfulOrder};
-ghost use Rattle.std.proofs.Common.{rules};
 
 use super::list::table::ObjectList;
 use super::scope::Scope;
@@ -39,9 +38,9 @@ impl<C: Catalogue> Scope for LoadOrder<C> {
 
     ghost lawful = { λ s. LawfulOrder (C.Catalogue.meaning s.catalogue) (listed s.objects) };
 
-    ghost ordered = { Prim.search rules };
+    ghost ordered = { λ s h. h };
 
-    ghost kept = { Prim.search rules };
+    ghost kept = { λ s h. C.Catalogue.kept s.catalogue };
 
     fn catalogue(&self) -> &C {
         &self.catalogue

@@ -20,6 +20,11 @@ pub trait Scope {
     // What a layer keeps true of itself and of the scope below it.
     ghost lawful: { Self → Type 0 };
 
+    // The laws, which each `impl` proves.
+    ghost ordered: { (s : Self) → lawful s → LawfulOrder (objects s) (order s) };
+
+    ghost kept: { (s : Self) → lawful s → Lawful (objects s) };
+
     fn catalogue(&self) -> &Self::Of
         ensures { Self.Of.Catalogue.meaning result.now ≡ objects self.now };
 
@@ -49,8 +54,4 @@ pub trait Scope {
         ensures objects { objects self.new ≡ objects self.old }
         ensures answer { result ≡ leave_answer (order self.old) object }
         ensures order { order self.new ≡ left (order self.old) object };
-
-    ghost ordered: { (s : Self) → lawful s → LawfulOrder (objects s) (order s) };
-
-    ghost kept: { (s : Self) → lawful s → Lawful (objects s) };
 }

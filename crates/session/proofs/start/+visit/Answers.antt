@@ -17,7 +17,7 @@ use Rattle.session.proofs.start.+visit.Goals.{in-Some, in_default, else-depth-gt
 pub push-requires : goal.push-requires
 push-requires g t c =
     let os : List Object = g.S.Scope.objects c.args.scope.now in
-    let k = g.met.S.Scope.kept c.args.scope.now c.requires.lawful in
+    let k = g.S.Scope.kept c.args.scope.now c.requires.lawful in
     room_left os (listed c.args.entered.now) c.args.object k c.requires.marked
     (lawful_known os (listed c.args.new.now) c.args.object c.requires.listed (sym c.if-has.ensures))
     (sym c.if-not-has.ensures)
@@ -68,7 +68,7 @@ loop-place-preserved g t c =
 
 pub push-requires-then-not-has : goal.push-requires-then-not-has
 push-requires-then-not-has g t c =
-    let k = g.met.S.Scope.kept c.args.scope.now c.requires.lawful in
+    let k = g.S.Scope.kept c.args.scope.now c.requires.lawful in
     let r = lawful_length (g.S.Scope.objects c.args.scope.now) (listed c.loop-place.entered) c.loop-place.invariant.1 in
     omega (arith, c.loop-place.invariant.2, ap length c.push.ensures ∙ length_push (listed c.args.entered.now) c.args.object)
 

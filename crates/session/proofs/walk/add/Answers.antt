@@ -7,7 +7,7 @@ use Rattle.session.proofs.walk.add.Goals as goal
 
 pub push-requires : goal.push-requires
 push-requires g c =
-    let k = g.met.S.Scope.kept c.args.scope.now c.requires.lawful in
+    let k = g.S.Scope.kept c.args.scope.now c.requires.lawful in
     room_left (g.S.Scope.objects c.args.scope.now) (listed c.args.list.now) c.args.object k
     c.requires.listed c.requires.known (sym c.if-not-has.ensures)
 

@@ -72,9 +72,9 @@ returns g c =
     let t' : Tables =
     record { root = Some c.args.root; preloads = t.preloads; started = c.start_order-self.result; bindings = c.bind_all.new.rows } in
     let from : List ℕ = listed t.preloads ++ (c.args.root ∷ []) in
+    let begun : c.as_slice-2.result.now ≡ from = cc in
     let started : listed t'.started ≡ start_order os list from =
-    c.start_order-self.ensures.order
-    ∙ ap₂ (λ cs xs. start_order cs list xs) kept (c.as_slice-2.ensures ∙ c.start_from-starts.ensures) in
+    c.start_order-self.ensures.order ∙ ap₂ (λ cs xs. start_order cs list xs) kept begun in
     let bound : recorded os t'.bindings ≡ recorded os t.bindings ++ bindings_of_all os order' list =
     subst (λ cs. recorded cs t'.bindings ≡ recorded cs t.bindings ++ bindings_of_all cs (g.S.Scope.order c.load.new.scope) list)
     c.load.ensures.objects c.bind_all.ensures.rows
