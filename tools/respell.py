@@ -4,8 +4,8 @@
 usage: python3 tools/respell.py          at the top of the repository, once, after the kit's port.py
 
 Definitions and lemmas of specs/ and proofs/ are renamed where they are declared and wherever a clause, a definition, a
-lemma or an answer cites them. Names of the code, of goals and of steps in it, strings and comments of the code stay. It
-changes nothing, and says so, where two names of one file would fall together.
+lemma or an answer cites them. Names of the code, of goals and of steps in it, and comment lines of the code stay. It changes
+nothing, and says so, where two names of one file would fall together.
 """
 import os
 import re
@@ -64,7 +64,7 @@ def declared():
 
 
 def turned(path, text, names, fields):
-    """The text with the names changed; the text of comments and of strings stays in code."""
+    """The text with the names changed, and the pairs that would fall together; comment lines of code stay."""
     token = re.compile(r"(?<![\w'◌≡≢·-])(\.?)(" + "|".join(re.escape(n) for n in sorted(names, key=len, reverse=True)) + r")(?![\w'◌-])")
     lines, fell = [], set()
     for line in text.split("\n"):
