@@ -1,5 +1,5 @@
 -- The lines of an export book, each read from its fields, and how it fits behind the lines before.
-use Rattle.std.specs.Prelude.{ℕ, ◌+◌, ◌-◌, ◌*◌, ◌/◌, ◌%◌, Bool, true, cond, not, ◌&&◌, ◌||◌, List, [], ◌∷◌, map, length, codes, Option, ◌==◌, nat_le, nat_lt, slice_index, slice_index_or}
+use Rattle.std.specs.Prelude.{ℕ, ◌+◌, ◌-◌, ◌*◌, ◌/◌, ◌%◌, Bool, true, cond, not, ◌&&◌, ◌||◌, leb, List, [], ◌∷◌, map, length, codes, Option, ◌==◌, nat_eq, nat_le, nat_lt, slice_index, slice_index_or}
 use Rattle.std.specs.Str.{bytes_eq}
 use Rattle.graph.specs.Graph.{among}
 use Rattle.elf.specs.Names.{Name, all, lawful, only_if}
@@ -76,7 +76,7 @@ version_row l =
 abbrev pub def_row : Fields → Option Definition
 def_row l =
     let index : ℕ = number_at l 3 % 32768 in
-    let told : Bool = nat_le 2 index in
+    let told : Bool = leb 2 index in
     only_if
     (is_row (codes "def") (cond told 6 5) l && is_number 65535 (field l 1) && lawful (field l 2)
     && is_number 65535 (field l 3) && is_number 3 (field l 4) && (not told || lawful (field l 5)))
@@ -93,7 +93,7 @@ def_row l =
 -- A `ref` line: symbol number, name, flags, perhaps a version.
 abbrev pub ref_row : Fields → Option Reference
 ref_row l =
-    let told : Bool = length l == 5 in
+    let told : Bool = nat_eq (length l) 5 in
     only_if
     (is_row (codes "ref") (cond told 5 4) l && is_number 65535 (field l 1) && lawful (field l 2)
     && is_number 7 (field l 3) && (not told || lawful (field l 4)))
