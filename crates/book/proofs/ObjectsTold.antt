@@ -7,13 +7,10 @@ use Rattle.std.proofs.lemmas.List.{drop_more, get_or_past, length_push, length-d
 use Rattle.std.proofs.lemmas.Bool.{cases_lt, cond-true, cond-false, false≢true, and_from, and_left, and_right, leb-true, le-leb, lt-leb, le-ltb, eq-eqb, ne_eqb}
 use Rattle.std.proofs.lemmas.Bool.Decides.{nat_tests}
 use Rattle.elf.specs.declared.refusal.Refusal.TheVariants.{BadLine}
-use Rattle.elf.specs.Names.{Name, bytes_of, only_if}
+use Rattle.elf.specs.Names.{Name, bytes_of, only_if, names_of}
 use Rattle.elf.specs.Meaning.{Definition, Reference, VersionNeed, Object}
-use Rattle.format.specs.Lines.{Fields, name_row, want_row, def_row, def_fits, ref_row, ref_fits, has_flag, number_at}
-use Rattle.format.specs.Book.{any}
-use Rattle.format.specs.Lines.{is_object, begins, first_line, split, lines_of}
-use Rattle.format.specs.Book.{object_body, read_objects, read_lines, read_book}
-use Rattle.elf.specs.Names.{names_of}
+use Rattle.format.specs.Lines.{Fields, name_row, want_row, def_row, def_fits, ref_row, ref_fits, has_flag, number_at, is_object, begins, first_line, split, lines_of}
+use Rattle.format.specs.Book.{any, object_body, read_objects, read_lines, read_book}
 use Rattle.book.specs.Sections.{Section, Versions, ObjectAt, ObjectsIn, lines_in}
 use Rattle.book.proofs.LinesTold.{first_left}
 use Rattle.elf.proofs.Choices.{only_if_some, only_if_none}

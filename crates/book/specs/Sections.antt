@@ -1,11 +1,10 @@
 -- What the parts of a book's reader give: sections, objects, and the places behind them.
 use Rattle.std.specs.Prelude.{◌≡◌, ℕ, ◌≤◌, Bool, List, [], map, length, drop, Option}
 use Rattle.std.specs.Borrow.{Bor}
-use Rattle.elf.specs.Names.{Name, and_then, only_if}
+use Rattle.elf.specs.Names.{Name, and_then, only_if, names_of}
 use Rattle.elf.specs.Meaning.{Object}
 use Rattle.format.specs.Lines.{Fields, lines_of, version_row, new_index}
 use Rattle.format.specs.Book.{run, object_body, read_objects}
-use Rattle.elf.specs.Names.{names_of}
 
 -- The lines of the parts between line feeds, as they are stored.
 abbrev pub lines_in : List (Bor (List ℕ)) → List Fields

@@ -1,8 +1,7 @@
 // Names in a book, looked up.
 ghost use Rattle.std.specs.Prelude.{◌≡◌, ◌≤◌, length};
 ghost use Rattle.elf.specs.Meaning.{target as target_in};
-ghost use Rattle.elf.specs.Names.{bytes_of, is_name, named_in};
-ghost use Rattle.elf.specs.Names.{names_of};
+ghost use Rattle.elf.specs.Names.{bytes_of, is_name, named_in, names_of};
 ghost use Rattle.book.specs.Held.{objects_of};
 
 use super::object::BookObject;

@@ -1,11 +1,10 @@
 // The sections of an object, each by its rule.
 ghost use Rattle.std.specs.Prelude.{◌≤◌, map, length, IfOk};
-ghost use Rattle.elf.specs.Names.{Name};
+ghost use Rattle.elf.specs.Names.{Name, names_of};
 ghost use Rattle.elf.specs.Meaning.{Definition as Defined, Reference as Referred, VersionNeed as Wanted};
 ghost use Rattle.elf.specs.Stored.{definition_of, reference_of, need_of};
 ghost use Rattle.format.specs.Book.{any};
 ghost use Rattle.format.specs.Lines.{name_row, want_row, def_row, ref_row, def_fits, ref_fits};
-ghost use Rattle.elf.specs.Names.{names_of};
 ghost use Rattle.book.specs.Sections.{lines_in, Versions};
 
 use super::lines::fields_at;

@@ -1,12 +1,10 @@
 // The lines of a book, each read from its fields.
 ghost use Rattle.std.specs.Prelude.{◌≡◌, if◌then◌else◌};
 ghost use Rattle.std.specs.Option.{option_map};
-ghost use Rattle.elf.specs.Names.{bytes_of, only_if};
+ghost use Rattle.elf.specs.Names.{bytes_of, only_if, names_of};
 ghost use Rattle.elf.specs.Stored.{definition_of, reference_of, need_of};
-ghost use Rattle.format.specs.Lines.{field as field_of, is_row, is_number, number_at, is_object};
-ghost use Rattle.format.specs.Lines.{name_row, want_row, version_row, def_row, ref_row};
+ghost use Rattle.format.specs.Lines.{field as field_of, is_row, is_number, number_at, is_object, name_row, want_row, version_row, def_row, ref_row};
 ghost use Rattle.bookline.specs.Rows.{symbol_row, told_version};
-ghost use Rattle.elf.specs.Names.{names_of};
 
 use super::text::number;
 use elf::name::{equal, is_lawful};

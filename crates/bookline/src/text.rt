@@ -1,8 +1,7 @@
 // The texts of a book: its first line, the parts between marks, and decimal numbers.
 ghost use Rattle.std.specs.Prelude.{◌≡◌, drop, IfOk};
-ghost use Rattle.elf.specs.Names.{bytes_of, only_if};
+ghost use Rattle.elf.specs.Names.{bytes_of, only_if, names_of};
 ghost use Rattle.format.specs.Lines.{split as split_of, is_number, value, begins, first_line};
-ghost use Rattle.elf.specs.Names.{names_of};
 
 use std::alloc::{AllocError, Global};
 

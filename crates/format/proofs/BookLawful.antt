@@ -9,13 +9,9 @@ use Rattle.elf.specs.declared.refusal.Refusal.{Refusal}
 use Rattle.elf.specs.declared.refusal.Refusal.TheVariants.{BookTooLong, BadLine}
 use Rattle.elf.specs.Names.{Name, lawful, only_if}
 use Rattle.elf.specs.Meaning.{Definition, Reference, VersionNeed, Object}
-use Rattle.catalogue.specs.Lawful.{LawfulName, LawfulIfTold, LawfulDefinition, LawfulReference, LawfulObject, Lawful}
-use Rattle.catalogue.specs.Lawful.{Rising, version_fits}
-use Rattle.format.specs.Lines.{Fields, field, is_row, is_digits, is_number, number_at, value, has_flag, last}
-use Rattle.format.specs.Book.{run, any}
-use Rattle.format.specs.Lines.{name_row, want_row, version_row, new_index, def_row, def_fits, ref_row, ref_fits}
-use Rattle.format.specs.Book.{object_body, read_objects, read_lines, read_book}
-use Rattle.format.specs.Lines.{is_object, begins, first_line, lines_of, split}
+use Rattle.catalogue.specs.Lawful.{LawfulName, LawfulIfTold, LawfulDefinition, LawfulReference, LawfulObject, Lawful, Rising, version_fits}
+use Rattle.format.specs.Lines.{Fields, field, is_row, is_digits, is_number, number_at, value, has_flag, last, name_row, want_row, version_row, new_index, def_row, def_fits, ref_row, ref_fits, is_object, begins, first_line, lines_of, split}
+use Rattle.format.specs.Book.{run, any, object_body, read_objects, read_lines, read_book}
 use Rattle.elf.proofs.Choices.{only_if_some}
 
 module _ {A : Type 0} (reads : Fields → Option A) (fits : List A → A → Bool) where

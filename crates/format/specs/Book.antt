@@ -5,8 +5,7 @@ use Rattle.elf.specs.declared.refusal.Refusal.TheVariants.{BookTooLong, BadLine}
 use Rattle.std.specs.List.{slice_get}
 use Rattle.elf.specs.Names.{Name}
 use Rattle.elf.specs.Meaning.{Definition, Reference, VersionNeed, Object}
-use Rattle.format.specs.Lines.{split, Fields, lines_of, number_at, has_flag, name_row, want_row, version_row, def_row, ref_row}
-use Rattle.format.specs.Lines.{new_index, def_fits, ref_fits, is_object, begins, first_line}
+use Rattle.format.specs.Lines.{split, Fields, lines_of, number_at, has_flag, name_row, want_row, version_row, def_row, ref_row, new_index, def_fits, ref_fits, is_object, begins, first_line}
 
 -- At most k lines that a rule reads and that fit behind those before, as far as they go; then the other lines.
 abbrev pub run : {A : Type 0} → ℕ → (Fields → Option A) → (List A → A → Bool) → List A → List Fields → List A × List Fields

@@ -3,8 +3,7 @@ use lib.ListN.{length-map}
 use Rattle.std.proofs.lemmas.List.{get_or-map}
 use Rattle.std.proofs.lemmas.Bool.{le-leb}
 use Rattle.std.proofs.lemmas.Bool.Decides.{nat_tests}
-use Rattle.elf.specs.Names.{Name}
-use Rattle.elf.specs.Names.{names_of}
+use Rattle.elf.specs.Names.{Name, names_of}
 use Rattle.book.proofs.LinesTold.{lines_most, lines_least, end_last}
 use Rattle.book.proofs.lines.is_end.Goals as goal
 

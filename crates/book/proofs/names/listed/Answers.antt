@@ -1,8 +1,7 @@
 use Rattle.std.proofs.Common.{[], arith}
 use Rattle.std.proofs.lemmas.List.{at_drop_more, at_drop_all}
 use Rattle.std.proofs.lemmas.Bool.Decides.{nat_tests}
-use Rattle.elf.specs.Names.{named_in}
-use Rattle.elf.specs.Names.{names_of}
+use Rattle.elf.specs.Names.{named_in, names_of}
 use Rattle.book.proofs.names.listed.Goals as goal
 
 pub returns-then-equal : goal.returns-then-equal

@@ -1,6 +1,5 @@
 use Rattle.std.proofs.Common.{◌≡◌, drop}
-use Rattle.elf.specs.Names.{named_in}
-use Rattle.elf.specs.Names.{names_of}
+use Rattle.elf.specs.Names.{named_in, names_of}
 use Rattle.book.proofs.names.listed.Given as goal
 
 -- what is left gives the answer

@@ -1,10 +1,9 @@
 use Rattle.std.proofs.Common.{ℕ, List, map, vec_items, sym, ap, ◌∙◌, subst, Bor}
 use Rattle.std.specs.List.{slice_get}
 use Rattle.elf.specs.declared.symbol.Definition.{Definition}
-use Rattle.elf.specs.Names.{bytes_of}
+use Rattle.elf.specs.Names.{bytes_of, names_of}
 use Rattle.elf.specs.Stored.{definition_of, reference_of, need_of}
 use Rattle.format.specs.Lines.{ref_row, ref_fits}
-use Rattle.elf.specs.Names.{names_of}
 use Rattle.book.specs.Sections.{lines_in, Section}
 use Rattle.book.proofs.ObjectsTold.{first_name, lowest_flag, object_made}
 use Rattle.book.proofs.objects.object_at.Goals as goal

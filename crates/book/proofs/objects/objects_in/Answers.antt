@@ -6,8 +6,7 @@ use Rattle.elf.specs.Names.{names_of}
 use Rattle.book.specs.Held.{object_of, objects_of}
 use Rattle.book.specs.Sections.{lines_in, ObjectAt}
 use Rattle.book.proofs.LinesTold.{lines_most}
-use Rattle.book.proofs.ObjectsTold.{Gathered, gathered_more, gathered_ends, gathered_full}
-use Rattle.book.proofs.ObjectsTold.{object_told, object_untold, object_within}
+use Rattle.book.proofs.ObjectsTold.{Gathered, gathered_more, gathered_ends, gathered_full, object_told, object_untold, object_within}
 use Rattle.book.proofs.objects.objects_in.Goals as goal
 
 pub returns-in_default : goal.returns-in_default

@@ -1,9 +1,8 @@
 use Rattle.std.proofs.Common.{ℕ, ◌<◌, ◌≤◌, true, false, List, [], ◌∷◌, ◌++◌, length, get_or, vec_items, sym, refl, ap, ◌∙◌, arith}
 use lib.ListN.{length-map}
 use Rattle.std.proofs.lemmas.List.{map_push}
-use Rattle.elf.specs.Names.{Name}
+use Rattle.elf.specs.Names.{Name, names_of}
 use Rattle.format.specs.Lines.{version_row, new_index}
-use Rattle.elf.specs.Names.{names_of}
 use Rattle.book.specs.Sections.{lines_in}
 use Rattle.book.proofs.LinesTold.{lines_most}
 use Rattle.book.proofs.Runs.{row_none, version_at, next_within, begun_more, begun_ends, begun_full}

@@ -1,7 +1,6 @@
 use Rattle.std.proofs.Common.{◌≡◌, ℕ, ◌-◌, List, map, vec_items, vec_len}
-use Rattle.elf.specs.Names.{Name}
+use Rattle.elf.specs.Names.{Name, names_of}
 use Rattle.format.specs.Lines.{version_row, new_index}
-use Rattle.elf.specs.Names.{names_of}
 use Rattle.book.specs.Sections.{lines_in}
 use Rattle.book.proofs.Runs.{Begun}
 use Rattle.book.proofs.sections.versions_at.Given as goal

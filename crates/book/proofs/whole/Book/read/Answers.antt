@@ -7,8 +7,7 @@ use Rattle.book.proofs.LinesTold.{lines_most}
 use Rattle.book.proofs.ObjectsTold.{book_unbegun, book_admitted, book_refused}
 use Rattle.format.proofs.BookLawful.{book_lawful}
 use Rattle.book.proofs.whole.Book.read.Goals as goal
-use Rattle.book.proofs.whole.Book.read.Goals.{then-is_empty-via-then-is_empty}
-use Rattle.book.proofs.whole.Book.read.Goals.{then-is_empty-via-else-is_empty+then-not-is_end}
+use Rattle.book.proofs.whole.Book.read.Goals.{then-is_empty-via-then-is_empty, then-is_empty-via-else-is_empty+then-not-is_end}
 
 pub returns-in_default : goal.returns-in_default
 returns-in_default c = book_unbegun c.args.text.now c.if-text-gt-LONGEST.false c.in_default.ensures
