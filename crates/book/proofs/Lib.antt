@@ -3,4 +3,4 @@ pub mod LinesTold
 pub mod Runs
 pub mod ObjectsTold
 pub mod Nths
-pub mod Targets
+pub mod Named

@@ -1,9 +1,11 @@
 -- What a look-up in a list of objects finds.
-use Rattle.std.proofs.Common.{◌≡◌, ℕ, zero, suc, List, [], ◌∷◌, map, Some, None, vec_items, Option, refl, ap, arith}
-use Rattle.std.specs.Option.{option_map}
+use Rattle.std.proofs.Common.{◌≡◌, ℕ, List, map, length, Some, None, vec_items, Option, sym, refl, ap, ◌∙◌, Bor}
+use Rattle.std.specs.Option.{option_map, unwrap_or}
 use Rattle.std.specs.List.{slice_get}
 use Rattle.elf.specs.declared.symbol.Definition.{Definition as StoredDefinition}
 use Rattle.elf.specs.Meaning.{Object, object, no_object}
+use Rattle.std.specs.Slice.{IsItemAt}
+use Rattle.std.proofs.lemmas.Option.{get_or_from_slice_get, slice_get-map, slice_get_past, slice_get_read, unwrap_or-slice_get}
 use Rattle.elf.specs.Names.{Name}
 use Rattle.elf.specs.Offers.{offer, offer_among}
 use Rattle.elf.specs.Stored.{definition_of}
@@ -11,20 +13,11 @@ use Rattle.book.specs.Held.{object_of, objects_of}
 use Rattle.catalogue.specs.Questions.{offered}
 use Rattle.book.specs.declared.object.BookObject.{BookObject}
 
-pub slice_get-map : {X Y : Type 0} (f : X → Y) (xs : List X) (i : ℕ) → slice_get (map f xs) i ≡ option_map f (slice_get xs i)
-slice_get-map f [] i = refl
-slice_get-map f (x ∷ xs) zero = refl
-slice_get-map f (x ∷ xs) (suc i) = slice_get-map f xs i
-
 object_found : (c : List Object) (n : ℕ) (o : Object) → Some o ≡ slice_get c n → o ≡ object c n
-object_found [] n o e = let z : ◌≡◌ {A = ℕ} 0 1 = cc in absurd (omega arith)
-object_found (x ∷ xs) zero o e = cc
-object_found (x ∷ xs) (suc n) o e = object_found xs n o e
+object_found c n o e = sym (get_or_from_slice_get c n o no_object (sym e))
 
 object_missed : (c : List Object) (n : ℕ) → None ≡ slice_get c n → no_object ≡ object c n
-object_missed [] n e = refl
-object_missed (x ∷ xs) zero e = let z : ◌≡◌ {A = ℕ} 0 1 = cc in absurd (omega arith)
-object_missed (x ∷ xs) (suc n) e = object_missed xs n e
+object_missed c n e = ap (λ (o : Option Object). unwrap_or o no_object) e ∙ unwrap_or-slice_get c n no_object
 
 -- What is asked of an object that is there.
 pub of_found : {A : Type 0} (f : Object → A) (os : List BookObject) (n : ℕ) {o : Object}
@@ -36,12 +29,18 @@ pub of_missed : {A : Type 0} (f : Object → A) (os : List BookObject) (n : ℕ)
     → None ≡ slice_get (objects_of os) n → f no_object ≡ f (object (objects_of os) n)
 of_missed f os n e = ap f (object_missed (objects_of os) n e)
 
+-- What `get` finds of a list, copied.
+got_copied : {X : Type 0} (xs : List X) (k : ℕ) (r : Option (Bor X)) → IsItemAt xs k r → option_map (λ x. x.now) r ≡ slice_get xs k
+got_copied xs k None item = sym (slice_get_past xs k item.3)
+got_copied xs k (Some x) item = sym (slice_get_read xs (length xs) k x.now refl item.3.0 item.1)
+
 -- An entry of an object that is there, read from what stores it.
 pub entry_found : {X Y : Type 0} (rows : Object → List Y) (f : X → Y) (os : List BookObject) (n k : ℕ)
-    → {o : Object} {xs ys : List X} {r : Option X} → Some o ≡ slice_get (objects_of os) n → rows o ≡ map f xs → ys ≡ xs
-    → r ≡ slice_get ys k → option_map f r ≡ slice_get (rows (object (objects_of os) n)) k
-entry_found rows f os n k {xs = xs} there stored same e =
+    → (r : Option (Bor X)) {o : Object} {xs ys : List X} {e : Option X} → Some o ≡ slice_get (objects_of os) n → rows o ≡ map f xs
+    → ys ≡ xs → IsItemAt ys k r → e ≡ option_map (λ x. x.now) r → option_map f e ≡ slice_get (rows (object (objects_of os) n)) k
+entry_found rows f os n k r {xs = xs} {ys = ys} there stored same item copied =
     let found = of_found rows os n there in
+    let got = got_copied ys k r item in
     let m = slice_get-map f xs k in
     cc
 

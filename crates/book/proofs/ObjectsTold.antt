@@ -1,7 +1,5 @@
 -- Objects one after another.
-use Rattle.std.proofs.Common.{◌≡◌, ℕ, zero, suc, ◌+◌, ◌-◌, ◌/◌, ◌%◌, ◌<◌, ◌≤◌, Bool, true, false, ◌&&◌, eqb, leb, ◌⊎◌, List, [], ◌∷◌, ◌++◌, length, get_or, drop, Some, None, Ok, Err, codes, Option, sym, refl, ap, ◌∙◌, ⊎_elim, append_assoc, append-nil, arith, Bor}
-use Rattle.std.specs.Option.{option_map}
-use Rattle.std.specs.Slice.{IsGetResult}
+use Rattle.std.proofs.Common.{◌≡◌, ℕ, zero, suc, ◌+◌, ◌-◌, ◌<◌, ◌≤◌, Bool, true, false, ◌&&◌, eqb, leb, ◌⊎◌, List, [], ◌∷◌, ◌++◌, map, length, get_or, drop, Some, Ok, Err, codes, Option, sym, refl, ap, ◌∙◌, subst, ⊎_elim, append_assoc, append-nil, arith, Bor}
 use Rattle.std.specs.List.{slice_get}
 use Rattle.std.proofs.lemmas.List.{drop_more, get_or_past, length_push, length-drop}
 use Rattle.std.proofs.lemmas.Bool.{cases_lt, cond-true, cond-false, false≢true, and_from, and_left, and_right, leb-true, le-leb, lt-leb, le-ltb, eq-eqb, ne_eqb}
@@ -9,52 +7,60 @@ use Rattle.std.proofs.lemmas.Bool.Decides.{nat_tests}
 use Rattle.elf.specs.declared.refusal.Refusal.TheVariants.{BadLine}
 use Rattle.elf.specs.Names.{Name, bytes_of, only_if, names_of}
 use Rattle.elf.specs.Meaning.{Definition, Reference, VersionNeed, Object}
-use Rattle.format.specs.Lines.{Fields, name_row, want_row, def_row, def_fits, ref_row, ref_fits, has_flag, number_at, is_object, begins, first_line, split, lines_of}
+use Rattle.format.specs.Lines.{Fields, name_row, want_row, version_row, new_index, def_row, def_fits, ref_row, ref_fits, number_at, is_object, begins, first_line, split, lines_of}
 use Rattle.format.specs.Book.{any, object_body, read_objects, read_lines, read_book}
-use Rattle.book.specs.Sections.{Section, Versions, ObjectAt, ObjectsIn, lines_in}
+use Rattle.std.proofs.lemmas.Simd.{map-map}
+use Rattle.bookline.specs.Rows.{flags_of, version_of}
+use Rattle.bookline.specs.declared.rows.ObjectFlags.{ObjectFlags}
+use Rattle.book.specs.Sections.{Section, ObjectAt, ObjectsIn, lines_in}
 use Rattle.book.proofs.LinesTold.{first_left}
-use Rattle.elf.proofs.Choices.{only_if_some, only_if_none}
+use Rattle.elf.proofs.Choices.{only_if_some}
 
 -- The first name of some, if there is one.
-pub first_name : (xs : List (Bor (List ℕ))) (r : Option (Bor (Bor (List ℕ)))) → IsGetResult xs 0 0 r
-    → slice_get (names_of xs) 0 ≡ bytes_of (option_map (λ x. x.now) r)
-first_name [] None i = refl
-first_name [] (Some y) i = absurd (omega (arith, i.3.0))
-first_name (x ∷ xs) None i = absurd (omega (arith, i.3))
-first_name (x ∷ xs) (Some y) i = ap (λ (z : Bor (List ℕ)). Some z.now) (sym i.1)
+pub first_name : (xs : List (Bor (List ℕ))) (r : Option (Bor (List ℕ))) → r ≡ slice_get xs 0 → slice_get (names_of xs) 0 ≡ bytes_of r
+first_name [] r e = ap bytes_of (sym e)
+first_name (x ∷ xs) r e = ap bytes_of (sym e)
 
--- The lowest flag.
-pub lowest_flag : (n : ℕ) → eqb (n % 2) 1 ≡ has_flag 1 n
-lowest_flag n = let e : n ≡ n / 1 = omega arith in ap (λ (k : ℕ). eqb (k % 2) 1) e
+-- A section of the same lines.
+same_lines : {A : Type 0} {most from next : ℕ} {reads : Fields → Option A} {fits : List A → A → Bool} {rows : List A}
+    (ps qs : List (Bor (List ℕ))) → ps ≡ qs → Section most reads fits (lines_in ps) from rows next
+    → Section most reads fits (lines_in qs) from rows next
+same_lines {most = most} {from = from} {next = next} {reads = reads} {fits = fits} {rows = rows} ps qs e s =
+    subst (λ (p : List (Bor (List ℕ))). Section most reads fits (lines_in p) from rows next) e s
 
--- The sections of an object, one behind the other, make it.
-pub object_made : (flags : ℕ) (ls : List Fields) (from a b c d e f : ℕ) (symbolic : Bool) (soname : Option Name)
-    (sonames needed : List Name) (needs : List VersionNeed) (versions : List Name) (defs : List Definition) (refs : List Reference)
-    → symbolic ≡ has_flag 1 flags
-    → slice_get sonames 0 ≡ soname
-    → Section 1 (name_row (codes "soname")) any ls from sonames a
-    → Section 32 (name_row (codes "needed")) any ls a needed b
-    → Section 64 want_row any ls b needs c
-    → Versions ls c versions d
-    → Section 4096 def_row (def_fits (has_flag 2 flags)) ls d defs e
-    → Section 4096 ref_row (ref_fits defs) ls e refs f
-    → ObjectAt flags ls from (record {
-      symbolic = symbolic;
-      versioned = has_flag 2 flags;
+-- The sections of an object, one behind the other, make it; no section changes the parts.
+pub object_made : (n : ℕ) (flags : ObjectFlags) (ps p₁ p₂ p₃ p₄ p₅ : List (Bor (List ℕ))) (from a b c d e f : ℕ) (soname : Option Name)
+    (sonames needed : List Name) (needs : List VersionNeed) (versions : List (Bor (List ℕ) × ℕ)) (defs : List Definition) (refs : List Reference)
+    → flags ≡ flags_of n → slice_get sonames 0 ≡ soname
+    → p₁ ≡ ps → p₂ ≡ p₁ → p₃ ≡ p₂ → p₄ ≡ p₃ → p₅ ≡ p₄
+    → Section 1 (name_row (codes "soname")) any (lines_in ps) from sonames a
+    → Section 32 (name_row (codes "needed")) any (lines_in p₁) a needed b
+    → Section 64 want_row any (lines_in p₂) b needs c
+    → Section 64 version_row new_index (lines_in p₃) c (map version_of versions) d
+    → Section 4096 def_row (def_fits flags.versioned) (lines_in p₄) d defs e
+    → Section 4096 ref_row (ref_fits defs) (lines_in p₅) e refs f
+    → ObjectAt n (lines_in ps) from (record {
+      symbolic = flags.symbolic;
+      versioned = flags.versioned;
       soname = soname;
       needed = needed;
       needs = needs;
-      versions = versions;
+      versions = map (λ v. v.0.now) versions;
       definitions = defs;
       references = refs;
     }) f
-object_made flags ls from a b c d e f symbolic soname sonames needed needs versions defs refs p q s₁ s₂ s₃ s₄ s₅ s₆ =
-    record {
-      is_body =
-          rw (p, ← q, ← s₄.1)
-          (rw (s₁.is_run, s₂.is_run, s₃.is_run, s₄.2.is_run, s₅.is_run, s₆.is_run) refl);
-      within = s₆.within;
-    }
+object_made n flags ps p₁ p₂ p₃ p₄ p₅ from a b c d e f soname sonames needed needs versions defs refs
+    told q e₁ e₂ e₃ e₄ e₅ s₁ s₂ s₃ s₄ s₅ s₆ =
+    let t₂ = same_lines p₁ ps e₁ s₂ in
+    let t₃ = same_lines p₂ ps (e₂ ∙ e₁) s₃ in
+    let t₄ = same_lines p₃ ps (e₃ ∙ e₂ ∙ e₁) s₄ in
+    let t₅ = rw told at (same_lines p₄ ps (e₄ ∙ e₃ ∙ e₂ ∙ e₁) s₅) in
+    let t₆ = same_lines p₅ ps (e₅ ∙ e₄ ∙ e₃ ∙ e₂ ∙ e₁) s₆ in
+    rw told
+    (record {
+      is_body = rw (← q, ← map-map (λ (v : Name × ℕ). v.0) version_of versions) (rw (s₁.is_run, t₂.is_run, t₃.is_run, t₄.is_run, t₅.is_run, t₆.is_run) refl);
+      within = t₆.within;
+    })
 
 -- An object stands first, or none does.
 objects_more : (k : ℕ) (l : Fields) (ls rest : List Fields) (o : Object) → is_object l ≡ true
@@ -70,15 +76,12 @@ objects_end (suc k) [] f = refl
 objects_end (suc k) (l ∷ ls) f = cond-false (is_object l) _ _ f
 
 -- What a line tells of an object.
-pub object_told : (l fields : Fields) (n : ℕ) → fields ≡ l → Some n ≡ only_if (is_object fields) (number_at fields 1)
-    → (is_object l ≡ true) × (n ≡ number_at l 1)
-object_told l fields n f e =
-    let p = only_if_some (is_object fields) (number_at fields 1) n (sym e) in
-    (ap is_object (sym f) ∙ p.0, sym p.1 ∙ ap (λ (g : Fields). number_at g 1) f)
-
-pub object_untold : (l fields : Fields) → fields ≡ l → None ≡ only_if (is_object fields) (number_at fields 1)
-    → is_object l ≡ false
-object_untold l fields f e = ap is_object (sym f) ∙ only_if_none (is_object fields) (number_at fields 1) (sym e)
+pub object_told : (l fields : Fields) (flags : ObjectFlags) → fields ≡ l
+    → Some flags ≡ only_if (is_object fields) (flags_of (number_at fields 1))
+    → (is_object l ≡ true) × (flags ≡ flags_of (number_at l 1))
+object_told l fields flags f e =
+    let p = only_if_some (is_object fields) (flags_of (number_at fields 1)) flags (sym e) in
+    (ap is_object (sym f) ∙ p.0, sym p.1 ∙ ap (λ (g : Fields). flags_of (number_at g 1)) f)
 
 -- The objects so far, and what is left to read.
 pub record Gathered (ls : List Fields) (os : List Object) (next : ℕ) : Type 0 where
@@ -86,6 +89,10 @@ pub record Gathered (ls : List Fields) (os : List Object) (next : ℕ) : Type 0 
   pub within : next ≤ length ls
   pub left :
       (os ++ (read_objects (64 - length os) (drop next ls)).0, (read_objects (64 - length os) (drop next ls)).1) ≡ read_objects 64 ls
+
+-- Nothing is read yet.
+pub gathered_none : (ls : List Fields) (next : ℕ) → next ≡ 0 → Gathered ls [] next
+gathered_none ls next z = rw z (record { few = omega arith; within = omega arith; left = refl })
 
 -- An `object` line stands within the lines.
 pub object_within : (ls : List Fields) (next : ℕ) → is_object (get_or ls next []) ≡ true → next < length ls
@@ -169,34 +176,23 @@ lines_refused ls os next r h =
     (λ l. and_right _ _ (ne_eqb (length (drop next ls)) 0 (λ z. omega (arith, length-drop next ls)))) h in
     rw r.are_read (cond-false _ _ _ t ∙ ap (λ (n : ℕ). Err (BadLine n)) line)
 
--- A text that is short enough and does not begin as it should.
-pub book_unbegun : (bytes : List ℕ) → length bytes ≤ 1048576 → None ≡ only_if (begins first_line bytes) (drop 7 bytes)
-    → read_book bytes ≡ Err (BadLine 0)
-book_unbegun bytes h e =
-    let t = only_if_none (begins first_line bytes) (drop 7 bytes) (sym e) in
-    cond-false _ _ _ (le-ltb 1048576 (length bytes) h) ∙ cond-false _ _ _ t
+-- A text is read as its lines, if it is short enough and begins as it should.
+module _ (bytes rest : List ℕ) (parts : List (Bor (List ℕ))) (os : List Object) (next : ℕ) (short : length bytes ≤ 1048576)
+    (begun : Some rest ≡ only_if (begins first_line bytes) (drop 7 bytes)) (split-up : names_of parts ≡ split 10 rest)
+    (read : ObjectsIn (lines_in parts) os next) where
+  book_begun : read_book bytes ≡ read_lines (lines_in parts)
+  book_begun =
+      let t = only_if_some (begins first_line bytes) (drop 7 bytes) rest (sym begun) in
+      cond-false _ _ _ (le-ltb 1048576 (length bytes) short) ∙ cond-true _ _ _ t.0
+      ∙ ap (λ (r : List ℕ). read_lines (lines_of (split 10 r))) t.1
+      ∙ ap (λ (ps : List Name). read_lines (lines_of ps)) (sym split-up)
 
--- Else its lines are read, as they are stored.
-book_begun : (bytes rest : List ℕ) (parts stored : List (Bor (List ℕ))) → length bytes ≤ 1048576
-    → Some rest ≡ only_if (begins first_line bytes) (drop 7 bytes) → names_of parts ≡ split 10 rest → stored ≡ parts
-    → read_book bytes ≡ read_lines (lines_in stored)
-book_begun bytes rest parts stored h e p s =
-    let t = only_if_some (begins first_line bytes) (drop 7 bytes) rest (sym e) in
-    cond-false _ _ _ (le-ltb 1048576 (length bytes) h) ∙ cond-true _ _ _ t.0
-    ∙ ap (λ (r : List ℕ). read_lines (lines_of (split 10 r))) t.1
-    ∙ ap (λ (ps : List Name). read_lines (lines_of ps)) (sym p)
-    ∙ ap (λ (ps : List (Bor (List ℕ))). read_lines (lines_in ps)) (sym s)
-
--- A book is admitted with its objects, or refused behind the last.
-module _ (bytes rest : List ℕ) (parts stored : List (Bor (List ℕ))) (os : List Object) (next : ℕ)
-    (short : length bytes ≤ 1048576) (begun : Some rest ≡ only_if (begins first_line bytes) (drop 7 bytes))
-    (split-up : names_of parts ≡ split 10 rest) (lent : stored ≡ parts) (read : ObjectsIn (lines_in stored) os next) where
-  pub book_admitted : false ≡ eqb (length os) 0 → true ≡ leb (length (lines_in stored)) next → read_book bytes ≡ Ok os
+  -- It is admitted with its objects, or refused behind the last.
+  pub book_admitted : false ≡ eqb (length os) 0 → true ≡ leb (length (lines_in parts)) next → read_book bytes ≡ Ok os
   book_admitted some end =
-      book_begun bytes rest parts stored short begun split-up lent
-      ∙ lines_admitted (lines_in stored) os next read (grind (arith, nat_tests, some))
-      (leb-true (length (lines_in stored)) next (sym end))
+      book_begun
+      ∙ lines_admitted (lines_in parts) os next read (grind (arith, nat_tests, some))
+      (leb-true (length (lines_in parts)) next (sym end))
 
-  pub book_refused : (length os ≡ 0) ⊎ (next < length (lines_in stored)) → read_book bytes ≡ Err (BadLine (next + 1))
-  book_refused why =
-      book_begun bytes rest parts stored short begun split-up lent ∙ lines_refused (lines_in stored) os next read why
+  pub book_refused : (length os ≡ 0) ⊎ (next < length (lines_in parts)) → read_book bytes ≡ Err (BadLine (next + 1))
+  book_refused why = book_begun ∙ lines_refused (lines_in parts) os next read why

@@ -14,7 +14,7 @@ object_of o =
       soname = bytes_of o.soname;
       needed = names_of (vec_items o.needed);
       needs = map need_of (vec_items o.needs);
-      versions = names_of (vec_items o.versions);
+      versions = map (λ v. v.0.now) (vec_items o.versions);
       definitions = map definition_of (vec_items o.definitions);
       references = map reference_of (vec_items o.references);
     }

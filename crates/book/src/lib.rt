@@ -4,7 +4,6 @@
 pub mod asks;
 mod lines;
 mod lookup;
-mod names;
 pub mod object;
 mod objects;
 pub mod read;

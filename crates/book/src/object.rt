@@ -1,7 +1,7 @@
 // One object of a book.
 use elf::symbol::{Definition, Reference, VersionNeed};
 
-// An object as a book tells it; the names are borrowed from the book's text.
+// An object as a book tells it, each version with its index; the names are borrowed from the book's text.
 #[derive(Drop)]
 pub struct BookObject<'a> {
     pub symbolic: bool,
@@ -9,7 +9,7 @@ pub struct BookObject<'a> {
     pub soname: Option<&'a [u8]>,
     pub needed: Vec<&'a [u8]>,
     pub needs: Vec<VersionNeed<'a>>,
-    pub versions: Vec<&'a [u8]>,
+    pub versions: Vec<(&'a [u8], u16)>,
     pub definitions: Vec<Definition<'a>>,
     pub references: Vec<Reference<'a>>,
 }

@@ -1,67 +1,63 @@
 // The objects of a book, each with its sections.
-ghost use Rattle.std.specs.Prelude.{◌≤◌, length, IfOk};
+ghost use Rattle.std.specs.Prelude.{◌≡◌, IfOk};
+ghost use Rattle.std.specs.Option.{option_map};
 ghost use Rattle.book.specs.Held.{object_of, objects_of};
-ghost use Rattle.book.specs.Sections.{lines_in, ObjectAt, ObjectsIn};
+ghost use Rattle.book.specs.Sections.{lines_in, ObjectRead, ObjectsIn};
 
-use super::lines::fields_at;
+use super::lines::Lines;
 use super::object::BookObject;
-use super::rule::rows_at;
-use super::sections::{Definitions, Names, References, Wants, versions_at};
+use super::sections::{Definitions, Names, References, Versions, Wants};
 use bookline::rows::object_row;
-use std::alloc::{AllocError, Global};
+use std::alloc::AllocError;
 
-// The object behind its `object` line, and the place behind it.
-fn object_at<'a>(
-    heap: Global,
-    parts: &[&'a [u8]],
-    from: usize,
-    flags: u16,
-) -> Result<(BookObject<'a>, usize), AllocError>
-    requires { from ≤ length (lines_in parts.now) }
-    ensures { IfOk result (λ v. ObjectAt flags (lines_in parts.now) from (object_of v.0) v.1) }
-{
-    let symbolic = flags % 2 == 1;
-    let versioned = flags / 2 % 2 == 1;
-    let (sonames, at) = rows_at(heap, parts, from, &Names { word: b"soname" }, 1)?;
-    let soname = sonames.first().copied();
-    let (needed, at) = rows_at(heap, parts, at, &Names { word: b"needed" }, 32)?;
-    let (needs, at) = rows_at(heap, parts, at, &Wants, 64)?;
-    let (versions, at) = versions_at(heap, parts, at)?;
-    let (definitions, at) = rows_at(heap, parts, at, &Definitions { versioned }, 4096)?;
-    let rule = References {
-        definitions: &definitions,
-    };
-    let (references, at) = rows_at(heap, parts, at, &rule, 4096)?;
-    let object = BookObject {
-        symbolic,
-        versioned,
-        soname,
-        needed,
-        needs,
-        versions,
-        definitions,
-        references,
-    };
-    Ok((object, at))
-}
+// The most objects of a book.
+const MOST: usize = 64;
 
-// The objects, at most 64, and the place behind the last.
-pub fn objects_in<'a>(
-    heap: Global,
-    parts: &[&'a [u8]],
-) -> Result<(Vec<BookObject<'a>>, usize), AllocError>
-    ensures { IfOk result (λ v. ObjectsIn (lines_in parts.now) (objects_of v.0.items) v.1) }
-{
-    let mut objects = Vec::new(heap);
-    let mut next = 0;
-    while objects.len() < 64 {
-        let fields = fields_at(heap, parts, next)?;
-        let Some(flags) = object_row(&fields) else {
-            return Ok((objects, next));
+impl<'a> Lines<'a> {
+    // The next object, none where the next line is no `object` line.
+    fn object(&mut self) -> Result<Option<BookObject<'a>>, AllocError>
+        ensures same { self.new.parts.items ≡ self.old.parts.items }
+        ensures object { IfOk result (λ o. ObjectRead (lines_in self.old.parts.items) self.old.next (option_map object_of o) self.new.next) }
+    {
+        let Some(flags) = object_row(&self.fields()?) else {
+            return Ok(None);
         };
-        let (object, after) = object_at(heap, parts, next + 1, flags)?;
-        objects.push(object)?;
-        next = after;
+        self.next += 1;
+        let sonames = self.rows(&Names { word: b"soname" }, 1)?;
+        let needed = self.rows(&Names { word: b"needed" }, 32)?;
+        let needs = self.rows(&Wants, 64)?;
+        let versions = self.rows(&Versions, 64)?;
+        let versioned = flags.versioned;
+        let definitions = self.rows(&Definitions { versioned }, 4096)?;
+        let rule = References {
+            definitions: &definitions,
+        };
+        let references = self.rows(&rule, 4096)?;
+        Ok(Some(BookObject {
+            symbolic: flags.symbolic,
+            versioned,
+            soname: sonames.first().copied(),
+            needed,
+            needs,
+            versions,
+            definitions,
+            references,
+        }))
     }
-    Ok((objects, next))
+
+    // The objects from the first line on, at most 64.
+    pub(super) fn objects(&mut self) -> Result<Vec<BookObject<'a>>, AllocError>
+        requires { self.old.next ≡ 0 }
+        ensures same { self.new.parts.items ≡ self.old.parts.items }
+        ensures objects { IfOk result (λ v. ObjectsIn (lines_in self.old.parts.items) (objects_of v.items) self.new.next) }
+    {
+        let mut objects = Vec::new(self.alloc);
+        for _ in 0..MOST {
+            let Some(object) = self.object()? else {
+                return Ok(objects);
+            };
+            objects.push(object)?;
+        }
+        Ok(objects)
+    }
 }

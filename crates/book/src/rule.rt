@@ -1,12 +1,12 @@
 // A section of an object: a run of lines that one rule reads.
-ghost use Rattle.std.specs.Prelude.{◌≡◌, ◌≤◌, Bool, List, [], map, length, IfOk, None, Option};
+ghost use Rattle.std.specs.Prelude.{◌≡◌, Bool, List, [], map, IfOk, None, Option};
 ghost use Rattle.std.specs.Option.{option_map};
 ghost use Rattle.format.specs.Lines.{Fields};
 ghost use Rattle.elf.specs.Names.{names_of};
-ghost use Rattle.book.specs.Sections.{lines_in, next_row, Section};
+ghost use Rattle.book.specs.Sections.{lines_in, Section};
 
-use super::lines::fields_at;
-use std::alloc::{AllocError, Global};
+use super::lines::Lines;
+use std::alloc::AllocError;
 
 // What reads the rows of a section, line by line.
 pub trait Rule<'a> {
@@ -20,32 +20,36 @@ pub trait Rule<'a> {
 
     ghost fits: { Self → List Meant → Meant → Bool };
 
-    // The row of a line, if it is one and fits behind those before.
-    fn row(&self, before: &[Self::Row], fields: &[&'a [u8]]) -> Option<Self::Row>
-        ensures { option_map meaning result ≡ next_row (reads self.now) (fits self.now) (map meaning before.now) (names_of fields.now) };
+    // A line without fields is no row.
+    ghost nothing: { (rule : Self) → reads rule [] ≡ None };
+
+    // The row of a line, if it is one.
+    fn read(&self, fields: &[&'a [u8]]) -> Option<Self::Row>
+        ensures { option_map meaning result ≡ reads self.now (names_of fields.now) };
+
+    // Whether a row fits behind those before.
+    fn fits(&self, before: &[Self::Row], row: &Self::Row) -> bool
+        ensures { result ≡ fits self.now (map meaning before.now) (meaning row.now) };
 }
 
-// The rows from a place on, at most so many, and the place behind them. A line without fields is no row.
-pub fn rows_at<'a, R: Rule<'a>>(
-    heap: Global,
-    parts: &[&'a [u8]],
-    from: usize,
-    rule: &R,
-    most: usize,
-) -> Result<(Vec<R::Row>, usize), AllocError>
-    requires place { from ≤ length (lines_in parts.now) }
-    requires nothing { R.Rule.reads rule.now [] ≡ None }
-    ensures { IfOk result (λ v. Section most (R.Rule.reads rule.now) (R.Rule.fits rule.now) (lines_in parts.now) from (map R.Rule.meaning v.0.items) v.1) }
-{
-    let mut rows = Vec::new(heap);
-    let mut next = from;
-    while rows.len() < most {
-        let fields = fields_at(heap, parts, next)?;
-        let Some(row) = rule.row(&rows, &fields) else {
-            return Ok((rows, next));
-        };
-        rows.push(row)?;
-        next += 1;
+impl<'a> Lines<'a> {
+    // The rows from the next line on, at most so many.
+    pub(super) fn rows<R: Rule<'a>>(
+        &mut self,
+        rule: &R,
+        most: usize,
+    ) -> Result<Vec<R::Row>, AllocError>
+        ensures same { self.new.parts.items ≡ self.old.parts.items }
+        ensures rows { IfOk result (λ v. Section most (R.Rule.reads rule.now) (R.Rule.fits rule.now) (lines_in self.old.parts.items) self.old.next (map R.Rule.meaning v.items) self.new.next) }
+    {
+        let mut rows = Vec::new(self.alloc);
+        for _ in 0..most {
+            match rule.read(&self.fields()?) {
+                Some(row) if rule.fits(&rows, &row) => rows.push(row)?,
+                _ => return Ok(rows),
+            }
+            self.next += 1;
+        }
+        Ok(rows)
     }
-    Ok((rows, next))
 }

@@ -1,18 +1,16 @@
 // The sections of an object, each by its rule.
-ghost use Rattle.std.specs.Prelude.{◌≤◌, map, length, IfOk};
-ghost use Rattle.elf.specs.Names.{Name, names_of};
-ghost use Rattle.elf.specs.Meaning.{Definition as Defined, Reference as Referred, VersionNeed as Wanted};
+ghost use Rattle.std.specs.Prelude.{ℕ, map, refl};
+ghost use Rattle.elf.specs.Names.{Name};
+ghost use Rattle.elf.specs.Meaning.{Definition as Defined, Reference as Referred, VersionNeed as Needed};
 ghost use Rattle.elf.specs.Stored.{definition_of, reference_of, need_of};
 ghost use Rattle.format.specs.Book.{any};
-ghost use Rattle.format.specs.Lines.{name_row, want_row, def_row, ref_row, def_fits, ref_fits};
-ghost use Rattle.book.specs.Sections.{lines_in, Versions};
+ghost use Rattle.format.specs.Lines.{name_row, want_row, version_row, new_index, def_row, def_fits, ref_row, ref_fits};
+ghost use Rattle.bookline.specs.Rows.{version_of};
 
-use super::lines::fields_at;
 use super::rule::Rule;
 use bookline::fits::{def_fits, new_index, ref_fits};
 use bookline::rows::{def_row, name_row, ref_row, version_row, want_row};
 use elf::symbol::{Definition, Reference, VersionNeed};
-use std::alloc::{AllocError, Global};
 
 // Lines of a word and a name.
 #[derive(Drop)]
@@ -31,8 +29,14 @@ impl<'a, 'w> Rule<'a> for Names<'w> {
 
     ghost fits = { λ _. any };
 
-    fn row(&self, _before: &[&'a [u8]], fields: &[&'a [u8]]) -> Option<&'a [u8]> {
+    ghost nothing = { λ _. refl };
+
+    fn read(&self, fields: &[&'a [u8]]) -> Option<&'a [u8]> {
         name_row(self.word, fields)
+    }
+
+    fn fits(&self, _before: &[&'a [u8]], _row: &&'a [u8]) -> bool {
+        true
     }
 }
 
@@ -43,7 +47,7 @@ pub struct Wants;
 impl<'a> Rule<'a> for Wants {
     type Row = VersionNeed<'a>;
 
-    ghost Meant = { Wanted };
+    ghost Meant = { Needed };
 
     ghost meaning = { need_of };
 
@@ -51,8 +55,40 @@ impl<'a> Rule<'a> for Wants {
 
     ghost fits = { λ _. any };
 
-    fn row(&self, _before: &[VersionNeed<'a>], fields: &[&'a [u8]]) -> Option<VersionNeed<'a>> {
+    ghost nothing = { λ _. refl };
+
+    fn read(&self, fields: &[&'a [u8]]) -> Option<VersionNeed<'a>> {
         want_row(fields)
+    }
+
+    fn fits(&self, _before: &[VersionNeed<'a>], _row: &VersionNeed<'a>) -> bool {
+        true
+    }
+}
+
+// Lines of the versions that an object defines, whose indices all differ.
+#[derive(Drop)]
+pub struct Versions;
+
+impl<'a> Rule<'a> for Versions {
+    type Row = (&'a [u8], u16);
+
+    ghost Meant = { Name × ℕ };
+
+    ghost meaning = { version_of };
+
+    ghost reads = { λ _. version_row };
+
+    ghost fits = { λ _. new_index };
+
+    ghost nothing = { λ _. refl };
+
+    fn read(&self, fields: &[&'a [u8]]) -> Option<(&'a [u8], u16)> {
+        version_row(fields)
+    }
+
+    fn fits(&self, before: &[(&'a [u8], u16)], row: &(&'a [u8], u16)) -> bool {
+        new_index(before, row)
     }
 }
 
@@ -73,13 +109,14 @@ impl<'a> Rule<'a> for Definitions {
 
     ghost fits = { λ s. def_fits s.versioned };
 
-    fn row(&self, before: &[Definition<'a>], fields: &[&'a [u8]]) -> Option<Definition<'a>> {
-        let row = def_row(fields)?;
-        if def_fits(self.versioned, before, &row) {
-            Some(row)
-        } else {
-            None
-        }
+    ghost nothing = { λ _. refl };
+
+    fn read(&self, fields: &[&'a [u8]]) -> Option<Definition<'a>> {
+        def_row(fields)
+    }
+
+    fn fits(&self, before: &[Definition<'a>], row: &Definition<'a>) -> bool {
+        def_fits(self.versioned, before, row)
     }
 }
 
@@ -100,39 +137,13 @@ impl<'a, 'd> Rule<'a> for References<'a, 'd> {
 
     ghost fits = { λ s. ref_fits (map definition_of s.definitions.now) };
 
-    fn row(&self, before: &[Reference<'a>], fields: &[&'a [u8]]) -> Option<Reference<'a>> {
-        let row = ref_row(fields)?;
-        if ref_fits(self.definitions, before, &row) {
-            Some(row)
-        } else {
-            None
-        }
-    }
-}
+    ghost nothing = { λ _. refl };
 
-// The names of the `version` lines from a place on, whose indices all differ, and the place behind them.
-pub fn versions_at<'a>(
-    heap: Global,
-    parts: &[&'a [u8]],
-    from: usize,
-) -> Result<(Vec<&'a [u8]>, usize), AllocError>
-    requires { from ≤ length (lines_in parts.now) }
-    ensures { IfOk result (λ v. Versions (lines_in parts.now) from (names_of v.0.items) v.1) }
-{
-    let mut names = Vec::new(heap);
-    let mut indices = Vec::new(heap);
-    let mut next = from;
-    while names.len() < 64 {
-        let fields = fields_at(heap, parts, next)?;
-        let Some((name, index)) = version_row(&fields) else {
-            return Ok((names, next));
-        };
-        if !new_index(&indices, index) {
-            return Ok((names, next));
-        }
-        names.push(name)?;
-        indices.push(index)?;
-        next += 1;
+    fn read(&self, fields: &[&'a [u8]]) -> Option<Reference<'a>> {
+        ref_row(fields)
     }
-    Ok((names, next))
+
+    fn fits(&self, before: &[Reference<'a>], row: &Reference<'a>) -> bool {
+        ref_fits(self.definitions, before, row)
+    }
 }

@@ -1,5 +1,6 @@
 // A whole book, read.
 ghost use Rattle.catalogue.specs.Lawful.{Lawful};
+ghost use Rattle.catalogue.specs.LawfulProp.{lawful_prop};
 ghost use Rattle.book.specs.Held.{objects_of};
 
 use super::object::BookObject;
@@ -8,5 +9,5 @@ use super::object::BookObject;
 #[derive(Drop)]
 pub struct Book<'a> {
     pub(super) objects: Vec<BookObject<'a>>,
-    ghost lawful: { ∥ Lawful (objects_of objects.items) ∥₁ },
+    ghost lawful: { Lawful (objects_of objects.items) } by { lawful_prop (objects_of objects.items) },
 }

@@ -1,5 +1,4 @@
 -- Lemmas of this crate.
-pub mod Splits
 pub mod Numbers
-pub mod RowsRead
 pub mod FitsBehind
+pub mod RowsRead

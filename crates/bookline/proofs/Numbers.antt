@@ -1,8 +1,9 @@
 -- The value of decimal digits, one digit on.
 use Rattle.std.proofs.Common.{◌≡◌, ℕ, ◌+◌, ◌-◌, ◌*◌, ◌<◌, ◌≤◌, Bool, cond, ◌&&◌, leb, List, [], ◌∷◌, length, get_or, drop, None, Option, ◌∙◌, arith}
-use Rattle.std.proofs.lemmas.List.{at_drop_more, at_drop_all}
+use Rattle.std.proofs.lemmas.List.{at_drop_more}
 use Rattle.std.proofs.lemmas.Bool.Decides.{nat_tests}
-use Rattle.elf.specs.Names.{all, only_if}
+use Rattle.std.specs.List.{list_all}
+use Rattle.elf.specs.Names.{only_if}
 use Rattle.format.specs.Lines.{value}
 
 abbrev digit : ℕ → Bool
@@ -10,7 +11,7 @@ digit d = leb 48 d && leb d 57
 
 -- The value of digits behind a number, if all are digits and it is at most a limit.
 abbrev pub number_on : ℕ → ℕ → List ℕ → Option ℕ
-number_on most n ds = only_if (all digit ds && leb (value n ds) most) (value n ds)
+number_on most n ds = only_if (list_all digit ds && leb (value n ds) most) (value n ds)
 
 -- More digits never make a value smaller.
 value_grows : (n : ℕ) (ds : List ℕ) → n ≤ value n ds
@@ -29,7 +30,3 @@ pub number_more :
     ≡ cond (digit (get_or ds i 0) && leb (10 * n + (get_or ds i 0 - 48)) most)
     (number_on most (10 * n + (get_or ds i 0 - 48)) (drop (i + 1) ds)) None
 number_more most n ds i h = at_drop_more (number_on most n) ds i 0 h ∙ number_step most n (get_or ds i 0) (drop (i + 1) ds)
-
-pub number_all :
-    (most n : ℕ) (ds : List ℕ) (i : ℕ) → length ds ≤ i → number_on most n (drop i ds) ≡ only_if (leb n most) n
-number_all most n ds i h = at_drop_all (number_on most n) ds i h

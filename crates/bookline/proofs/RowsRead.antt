@@ -1,198 +1,152 @@
--- The fields of a line, and what a line is once its fields are read.
-use Rattle.std.proofs.Common.{◌≡◌, ℕ, ◌/◌, ◌%◌, ◌<◌, ◌≤◌, Bool, true, false, cond, ◌&&◌, eqb, leb, List, [], length, get_or, Some, None, codes, Option, sym, refl, ap, ◌∙◌, arith, Bor}
-use lib.ListN.{length-map}
-use Rattle.std.proofs.lemmas.List.{get_or-map, get_or_past}
-use Rattle.std.proofs.lemmas.Bool.{false≢true}
-use Rattle.elf.specs.Names.{Name, only_if, names_of}
-use Rattle.elf.proofs.Choices.{only_if_some, only_if_none}
+-- What a line about a symbol tells, by its fields as they are stored.
+use Rattle.std.proofs.Common.{◌≡◌, ℕ, ◌-◌, ◌%◌, ◌≤◌, Bool, true, false, cond, ◌&&◌, ◌||◌, not, eqb, leb, List, [], ◌∷◌, length, get_or, take, drop, is_some, Some, None, codes, Option, refl, arith, Bor}
+use Rattle.std.proofs.lemmas.List.{take_all}
+use Rattle.std.proofs.lemmas.Bool.{ne_eqb}
+use Rattle.std.specs.Bool.{beq}
+use Rattle.std.specs.Str.{bytes_eq}
+use Rattle.elf.specs.Names.{Name, bytes_of, and_then, only_if, lawful, names_of}
 use Rattle.elf.specs.Meaning.{Definition, Reference}
-use Rattle.format.specs.Lines.{Fields, field, is_number, number_at, has_flag, def_row, ref_row}
-use Rattle.bookline.specs.Rows.{is_symbol, symbol_row, version_holds, told_version}
+use Rattle.format.specs.Lines.{is_number, value, has_flag, def_row, ref_row}
+use Rattle.bookline.specs.Rows.{version_in}
 
--- A field that stands in the line, and one past the last.
-pub field_found :
-    (fields : List (Bor (List ℕ))) (k : ℕ) (r : Bor (List ℕ)) → k < length fields → r ≡ get_or fields k r
-    → r.now ≡ field (names_of fields) k
-field_found fields k r h e = ap (λ x. x.now) e ∙ sym (get_or-map (λ x. x.now) fields k r [] h)
+-- A field as it is stored.
+abbrev pub stored : List (Bor (List ℕ)) → ℕ → Name
+stored fields k = (get_or fields k (record { ref_ptr = (0, 0); now = [] })).now
 
-pub field_past : (fields : List (Bor (List ℕ))) (k : ℕ) → length fields ≤ k → [] ≡ field (names_of fields) k
-field_past fields k h = sym (get_or_past (names_of fields) k [] (omega (arith, length-map fields (λ x. x.now))))
+-- A number at most a limit.
+abbrev pub number_in : ℕ → Name → Option ℕ
+number_in most digits = only_if (is_number most digits) (value 0 digits)
 
--- Four tests, of which one fails.
-four_fail :
-    {A : Type 0} (p q r s : Bool) (x : A) → ((p ≡ true) × (q ≡ true) × (r ≡ true) × (s ≡ true) → ⊥)
-    → None ≡ only_if (p && q && r && s) x
-four_fail false q r s x h = refl
-four_fail true false r s x h = refl
-four_fail true true false s x h = refl
-four_fail true true true false x h = refl
-four_fail true true true true x h = absurd (h (refl, refl, refl, refl))
+-- None either way.
+pub none_both : {A : Type 0} (b : Bool) → ◌≡◌ {A = Option A} None (cond b None None)
+none_both false = refl
+none_both true = refl
 
--- Four tests that hold.
-four_hold :
-    {A : Type 0} (p q r s : Bool) (x : A) → p ≡ true → q ≡ true → r ≡ true → s ≡ true
-    → Some x ≡ only_if (p && q && r && s) x
-four_hold p q r s x e f g h = rw (e, f, g, h) refl
+-- Bytes stand behind a reference that is there.
+pub is_some-bytes_of : (o : Option (Bor (List ℕ))) → is_some (bytes_of o) ≡ is_some o
+is_some-bytes_of None = refl
+is_some-bytes_of (Some r) = refl
 
--- What an answer tells of its test.
-only_none : {A : Type 0} (b : Bool) (x : A) → None ≡ only_if b x → b ≡ true → ⊥
-only_none b x h e = false≢true (sym (only_if_none b x (sym h)) ∙ e)
+-- The tests of a `ref` line, of its length, word, number, name, flags and version, in the order in which it is read;
+-- `found` is what the first and the last tell.
+ref_in_turn : {A : Type 0} (l p q r s w : Bool) (n f : ℕ) (x : A) (found : ℕ → ℕ → Option A)
+    → only_if (l && w) x ≡ found n f
+    → only_if (l && p && q && r && s && w) x ≡ cond (p && r) (and_then (only_if q n) (λ n. and_then (only_if s f) (found n))) None
+ref_in_turn l p q r s w n f x found h = grind arith
 
-only_some : {A : Type 0} (b : Bool) (x y : A) → Some y ≡ only_if b x → (b ≡ true) × (y ≡ x)
-only_some b x y h = let p = only_if_some b x y (sym h) in (p.0, sym p.1)
+-- The same of a `def` line, which has a field more.
+def_in_turn : {A : Type 0} (l p q r s u w : Bool) (n v f : ℕ) (x : A) (found : ℕ → ℕ → ℕ → Option A)
+    → only_if (l && w) x ≡ found n v f
+    → only_if (l && p && q && r && s && u && w) x
+    ≡ cond (p && r) (and_then (only_if q n) (λ n. and_then (only_if s v) (λ v. and_then (only_if u f) (found n v)))) None
+def_in_turn l p q r s u w n v f x found h = grind arith
 
--- From the index 2 on, a `def` line tells a version.
-abbrev def_told : Fields → Bool
-def_told l = leb 2 (number_at l 3 % 32768)
+-- Whether a version is told, and what stands in its place, of a `def` line with five fields or six.
+version_of_five : {A : Type 0} (told w : Bool) (v : Name) (make : Option Name → A)
+    → only_if (eqb 5 (cond told 6 5) && (not told || w)) (make (only_if told v)) ≡ only_if (beq false told) (make None)
+version_of_five false w v make = refl
+version_of_five true w v make = refl
 
--- The tests of a `def` line.
-abbrev DefTests : Fields → Type 0
-DefTests l =
-    (is_symbol (codes "def") (cond (def_told l) 6 5) l ≡ true) × (is_number 65535 (field l 3) ≡ true)
-    × (is_number 3 (field l 4) ≡ true) × (version_holds (def_told l) (field l 5) ≡ true)
+version_of_six : {A : Type 0} (told w : Bool) (v : Name) (make : Option Name → A)
+    → only_if (eqb 6 (cond told 6 5) && (not told || w)) (make (only_if told v))
+    ≡ and_then (only_if w (Some v)) (λ version. only_if (beq (is_some version) told) (make version))
+version_of_six false false v make = refl
+version_of_six false true v make = refl
+version_of_six true false v make = refl
+version_of_six true true v make = refl
 
-def_fails : (l : Fields) → (DefTests l → ⊥) → None ≡ def_row l
-def_fails l h =
-    four_fail (is_symbol (codes "def") (cond (def_told l) 6 5) l) (is_number 65535 (field l 3)) (is_number 3 (field l 4))
-    (version_holds (def_told l) (field l 5)) _ h
+six_at_most : (b : Bool) → cond b 6 5 ≤ 6
+six_at_most false = omega arith
+six_at_most true = omega arith
 
-pub def_no_index : (l : Fields) → None ≡ only_if (is_number 65535 (field l 3)) (number_at l 3) → None ≡ def_row l
-def_no_index l h = def_fails l (λ t. only_none (is_number 65535 (field l 3)) (number_at l 3) h t.1)
-
-pub def_no_flags : (l : Fields) → None ≡ only_if (is_number 3 (field l 4)) (number_at l 4) → None ≡ def_row l
-def_no_flags l h = def_fails l (λ t. only_none (is_number 3 (field l 4)) (number_at l 4) h t.2)
-
--- The index as it was read tells the same.
-told_same :
-    (l : Fields) (versym : ℕ) → Some versym ≡ only_if (is_number 65535 (field l 3)) (number_at l 3)
-    → leb 2 (versym % 32768) ≡ def_told l
-told_same l versym v =
-    ap (λ (n : ℕ). leb 2 (n % 32768)) (only_some (is_number 65535 (field l 3)) (number_at l 3) versym v).1
-
-symbol_same :
-    (l : Fields) (word : Name) (told told' : Bool) (with without count : ℕ) (o : Option (ℕ × Name)) → told ≡ told'
-    → count ≡ cond told with without → o ≡ symbol_row word count l → o ≡ symbol_row word (cond told' with without) l
-symbol_same l word told told' with without count o t n h =
-    h ∙ ap (λ (k : ℕ). symbol_row word k l) (n ∙ ap (λ (b : Bool). cond b with without) t)
-
-pub def_no_symbol :
-    (l : Fields) (versym count : ℕ) → Some versym ≡ only_if (is_number 65535 (field l 3)) (number_at l 3)
-    → count ≡ cond (leb 2 (versym % 32768)) 6 5 → None ≡ symbol_row (codes "def") count l → None ≡ def_row l
-def_no_symbol l versym count v n h =
-    def_fails l
-    (λ t. only_none (is_symbol (codes "def") (cond (def_told l) 6 5) l) (number_at l 1, field l 2)
-    (symbol_same l (codes "def") (leb 2 (versym % 32768)) (def_told l) 6 5 count None (told_same l versym v) n h) t.0)
-
-pub def_no_version :
-    (l : Fields) (versym : ℕ) → Some versym ≡ only_if (is_number 65535 (field l 3)) (number_at l 3)
-    → None ≡ told_version (leb 2 (versym % 32768)) (field l 5) → None ≡ def_row l
-def_no_version l versym v h =
-    def_fails l
-    (λ t. only_none (version_holds (def_told l) (field l 5)) (only_if (def_told l) (field l 5))
-    (h ∙ ap (λ (b : Bool). told_version b (field l 5)) (told_same l versym v)) t.3)
-
--- A definition by what its line says; `low` is the flags as far as the lowest bit goes.
-abbrev definition_at : ℕ → Name → ℕ → ℕ → ℕ → Option Name → Definition
-definition_at number name versym low flags version =
+-- The reference that the fields of a `ref` line tell.
+abbrev ref_of : Name → ℕ → ℕ → Option Name → Reference
+ref_of name number flags version =
     record {
       number = number;
       name = name;
-      index = versym % 32768;
-      hidden = leb 32768 versym;
-      weak = eqb (low % 2) 1;
-      protected = has_flag 2 flags;
-      version = version;
-    }
-
-pub def_made :
-    (l : Fields) (versym flags count number : ℕ) (name : Name) (version : Option Name)
-    → Some versym ≡ only_if (is_number 65535 (field l 3)) (number_at l 3)
-    → Some flags ≡ only_if (is_number 3 (field l 4)) (number_at l 4)
-    → count ≡ cond (leb 2 (versym % 32768)) 6 5 → Some (number, name) ≡ symbol_row (codes "def") count l
-    → Some version ≡ told_version (leb 2 (versym % 32768)) (field l 5)
-    → Some (definition_at number name versym flags flags version) ≡ def_row l
-def_made l versym flags count number name version v f n s w =
-    let t = told_same l versym v in
-    let v' = only_some (is_number 65535 (field l 3)) (number_at l 3) versym v in
-    let f' = only_some (is_number 3 (field l 4)) (number_at l 4) flags f in
-    let s' = only_some (is_symbol (codes "def") (cond (def_told l) 6 5) l) (number_at l 1, field l 2) (number, name)
-    (symbol_same l (codes "def") (leb 2 (versym % 32768)) (def_told l) 6 5 count (Some (number, name)) t n s) in
-    let w' = only_some (version_holds (def_told l) (field l 5)) (only_if (def_told l) (field l 5)) version
-    (w ∙ ap (λ (b : Bool). told_version b (field l 5)) t) in
-    let number_is : number ≡ number_at l 1 = ap (λ (p : ℕ × Name). p.0) s'.1 in
-    let name-is : name ≡ field l 2 = ap (λ (p : ℕ × Name). p.1) s'.1 in
-    let low : flags ≡ number_at l 4 / 1 = omega (arith, f'.1) in
-    let same
-    : definition_at number name versym flags flags version
-    ≡ definition_at (number_at l 1) (field l 2) (number_at l 3) (number_at l 4 / 1) (number_at l 4) (only_if (def_told l) (field l 5))
-    = cc in
-    ap Some same
-    ∙ four_hold (is_symbol (codes "def") (cond (def_told l) 6 5) l) (is_number 65535 (field l 3)) (is_number 3 (field l 4))
-    (version_holds (def_told l) (field l 5)) _ s'.0 v'.0 f'.0 w'.0
-
--- A line tells a version if it has five fields, as its references are counted.
-pub told_five : (fields : List (Bor (List ℕ))) → eqb (length fields) 5 ≡ eqb (length (names_of fields)) 5
-told_five fields = ap (λ (n : ℕ). eqb n 5) (sym (length-map fields (λ x. x.now)))
-
--- The tests of a `ref` line.
-abbrev RefTests : Fields → Type 0
-RefTests l =
-    (true ≡ true) × (is_symbol (codes "ref") (cond (eqb (length l) 5) 5 4) l ≡ true) × (is_number 7 (field l 3) ≡ true)
-    × (version_holds (eqb (length l) 5) (field l 4) ≡ true)
-
-ref_fails : (l : Fields) → (RefTests l → ⊥) → None ≡ ref_row l
-ref_fails l h =
-    four_fail true (is_symbol (codes "ref") (cond (eqb (length l) 5) 5 4) l) (is_number 7 (field l 3))
-    (version_holds (eqb (length l) 5) (field l 4)) _ h
-
-pub ref_no_flags : (l : Fields) → None ≡ only_if (is_number 7 (field l 3)) (number_at l 3) → None ≡ ref_row l
-ref_no_flags l h = ref_fails l (λ t. only_none (is_number 7 (field l 3)) (number_at l 3) h t.2)
-
-pub ref_no_symbol :
-    (l : Fields) (told : Bool) (count : ℕ) → told ≡ eqb (length l) 5 → count ≡ cond told 5 4
-    → None ≡ symbol_row (codes "ref") count l → None ≡ ref_row l
-ref_no_symbol l told count t n h =
-    ref_fails l
-    (λ u. only_none (is_symbol (codes "ref") (cond (eqb (length l) 5) 5 4) l) (number_at l 1, field l 2)
-    (symbol_same l (codes "ref") told (eqb (length l) 5) 5 4 count None t n h) u.1)
-
-pub ref_no_version :
-    (l : Fields) (told : Bool) → told ≡ eqb (length l) 5 → None ≡ told_version told (field l 4) → None ≡ ref_row l
-ref_no_version l told t h =
-    ref_fails l
-    (λ u. only_none (version_holds (eqb (length l) 5) (field l 4)) (only_if (eqb (length l) 5) (field l 4))
-    (h ∙ ap (λ (b : Bool). told_version b (field l 4)) t) u.3)
-
--- A reference by what its line says.
-abbrev reference_at : ℕ → Name → ℕ → ℕ → Option Name → Reference
-reference_at number name low flags version =
-    record {
-      number = number;
-      name = name;
-      weak = eqb (low % 2) 1;
+      weak = has_flag 1 flags;
       protected = has_flag 2 flags;
       own = has_flag 4 flags;
       version = version;
     }
 
-pub ref_made :
-    (l : Fields) (told : Bool) (flags count number : ℕ) (name : Name) (version : Option Name) → told ≡ eqb (length l) 5
-    → Some flags ≡ only_if (is_number 7 (field l 3)) (number_at l 3) → count ≡ cond told 5 4
-    → Some (number, name) ≡ symbol_row (codes "ref") count l → Some version ≡ told_version told (field l 4)
-    → Some (reference_at number name flags flags version) ≡ ref_row l
-ref_made l told flags count number name version t f n s w =
-    let f' = only_some (is_number 7 (field l 3)) (number_at l 3) flags f in
-    let s' = only_some (is_symbol (codes "ref") (cond (eqb (length l) 5) 5 4) l) (number_at l 1, field l 2) (number, name)
-    (symbol_same l (codes "ref") told (eqb (length l) 5) 5 4 count (Some (number, name)) t n s) in
-    let w' = only_some (version_holds (eqb (length l) 5) (field l 4)) (only_if (eqb (length l) 5) (field l 4)) version
-    (w ∙ ap (λ (b : Bool). told_version b (field l 4)) t) in
-    let number_is : number ≡ number_at l 1 = ap (λ (p : ℕ × Name). p.0) s'.1 in
-    let name-is : name ≡ field l 2 = ap (λ (p : ℕ × Name). p.1) s'.1 in
-    let low : flags ≡ number_at l 3 / 1 = omega (arith, f'.1) in
-    let same
-    : reference_at number name flags flags version
-    ≡ reference_at (number_at l 1) (field l 2) (number_at l 3 / 1) (number_at l 3) (only_if (eqb (length l) 5) (field l 4))
-    = cc in
-    ap Some same
-    ∙ four_hold true (is_symbol (codes "ref") (cond (eqb (length l) 5) 5 4) l) (is_number 7 (field l 3))
-    (version_holds (eqb (length l) 5) (field l 4)) _ refl s'.0 f'.0 w'.0
+-- What a `ref` line of at least four fields tells, in the order in which they are read.
+pub ref_told : (fields : List (Bor (List ℕ))) → 4 ≤ length fields
+    → ref_row (names_of fields)
+    ≡ cond (bytes_eq (stored fields 0) (codes "ref") && lawful (stored fields 2))
+    (and_then (number_in 65535 (stored fields 1)) (λ number. and_then (number_in 7 (stored fields 3))
+    (λ flags. and_then (version_in (names_of (take (length fields - 4) (drop 4 fields))))
+    (λ version. Some (ref_of (stored fields 2) number flags version)))))
+    None
+ref_told [] h = absurd (omega arith)
+ref_told (a ∷ []) h = absurd (omega arith)
+ref_told (a ∷ (b ∷ [])) h = absurd (omega arith)
+ref_told (a ∷ (b ∷ (c ∷ []))) h = absurd (omega arith)
+ref_told (a ∷ (b ∷ (c ∷ (d ∷ [])))) h = ref_in_turn true (bytes_eq a.now (codes "ref")) _ (lawful c.now) _ true _ _ _ _ refl
+ref_told (a ∷ (b ∷ (c ∷ (d ∷ (e ∷ []))))) h =
+    ref_in_turn true (bytes_eq a.now (codes "ref")) (is_number 65535 b.now) (lawful c.now) (is_number 7 d.now) (lawful e.now)
+    (value 0 b.now) (value 0 d.now) _
+    (λ number flags. and_then (only_if (lawful e.now) (Some e.now)) (λ version. Some (ref_of c.now number flags version))) (grind arith)
+ref_told (a ∷ (b ∷ (c ∷ (d ∷ (e ∷ (f ∷ more)))))) h =
+    let l = names_of (a ∷ (b ∷ (c ∷ (d ∷ (e ∷ (f ∷ more)))))) in
+    let all : take (length (a ∷ (b ∷ (c ∷ (d ∷ (e ∷ (f ∷ more)))))) - 4) (e ∷ (f ∷ more)) ≡ e ∷ (f ∷ more) =
+    take_all _ (e ∷ (f ∷ more)) (omega arith) in
+    let five : eqb (length l) 5 ≡ false = ne_eqb _ 5 (λ z. omega (arith, z)) in
+    let four : eqb (length l) 4 ≡ false = ne_eqb _ 4 (λ z. omega (arith, z)) in
+    rw (all, five, four)
+    (ref_in_turn false (bytes_eq a.now (codes "ref")) (is_number 65535 b.now) (lawful c.now) (is_number 7 d.now) true
+    (value 0 b.now) (value 0 d.now) (ref_of [] 0 0 None) (λ number flags. None) refl)
+
+-- The definition that the fields of a `def` line tell.
+abbrev def_of : Name → ℕ → ℕ → ℕ → Option Name → Definition
+def_of name number versym flags version =
+    record {
+      number = number;
+      name = name;
+      index = versym % 32768;
+      hidden = leb 32768 versym;
+      weak = has_flag 1 flags;
+      protected = has_flag 2 flags;
+      version = version;
+    }
+
+-- What a `def` line of at least five fields tells, in the order in which they are read.
+pub def_told : (fields : List (Bor (List ℕ))) → 5 ≤ length fields
+    → def_row (names_of fields)
+    ≡ cond (bytes_eq (stored fields 0) (codes "def") && lawful (stored fields 2))
+    (and_then (number_in 65535 (stored fields 1)) (λ number. and_then (number_in 65535 (stored fields 3))
+    (λ versym. and_then (number_in 3 (stored fields 4))
+    (λ flags. and_then (version_in (names_of (take (length fields - 5) (drop 5 fields))))
+    (λ version. only_if (beq (is_some version) (leb 2 (versym % 32768)))
+    (def_of (stored fields 2) number versym flags version))))))
+    None
+def_told [] h = absurd (omega arith)
+def_told (a ∷ []) h = absurd (omega arith)
+def_told (a ∷ (b ∷ [])) h = absurd (omega arith)
+def_told (a ∷ (b ∷ (c ∷ []))) h = absurd (omega arith)
+def_told (a ∷ (b ∷ (c ∷ (d ∷ [])))) h = absurd (omega arith)
+def_told (a ∷ (b ∷ (c ∷ (d ∷ (e ∷ []))))) h =
+    let told = leb 2 (value 0 d.now % 32768) in
+    def_in_turn (eqb 5 (cond told 6 5)) (bytes_eq a.now (codes "def")) (is_number 65535 b.now)
+    (lawful c.now) (is_number 65535 d.now) (is_number 3 e.now) (not told || lawful []) (value 0 b.now) (value 0 d.now)
+    (value 0 e.now) _
+    (λ number versym flags. only_if (beq false (leb 2 (versym % 32768))) (def_of c.now number versym flags None))
+    (version_of_five told (lawful []) [] (def_of c.now (value 0 b.now) (value 0 d.now) (value 0 e.now)))
+def_told (a ∷ (b ∷ (c ∷ (d ∷ (e ∷ (f ∷ [])))))) h =
+    let told = leb 2 (value 0 d.now % 32768) in
+    def_in_turn (eqb 6 (cond told 6 5)) (bytes_eq a.now (codes "def")) (is_number 65535 b.now)
+    (lawful c.now) (is_number 65535 d.now) (is_number 3 e.now) (not told || lawful f.now) (value 0 b.now) (value 0 d.now)
+    (value 0 e.now) _
+    (λ number versym flags. and_then (only_if (lawful f.now) (Some f.now))
+    (λ version. only_if (beq (is_some version) (leb 2 (versym % 32768))) (def_of c.now number versym flags version)))
+    (version_of_six told (lawful f.now) f.now (def_of c.now (value 0 b.now) (value 0 d.now) (value 0 e.now)))
+def_told (a ∷ (b ∷ (c ∷ (d ∷ (e ∷ (f ∷ (g ∷ more))))))) h =
+    let l = names_of (a ∷ (b ∷ (c ∷ (d ∷ (e ∷ (f ∷ (g ∷ more))))))) in
+    let told = leb 2 (value 0 d.now % 32768) in
+    let all : take (length (a ∷ (b ∷ (c ∷ (d ∷ (e ∷ (f ∷ (g ∷ more))))))) - 5) (f ∷ (g ∷ more)) ≡ f ∷ (g ∷ more) =
+    take_all _ (f ∷ (g ∷ more)) (omega arith) in
+    let long : eqb (length l) (cond told 6 5) ≡ false = ne_eqb _ _ (λ z. omega (arith, z, six_at_most told)) in
+    rw (all, long)
+    (def_in_turn false (bytes_eq a.now (codes "def")) (is_number 65535 b.now) (lawful c.now) (is_number 65535 d.now)
+    (is_number 3 e.now) true (value 0 b.now) (value 0 d.now) (value 0 e.now) (def_of [] 0 0 0 None) (λ number versym flags. None) refl)

@@ -1,20 +1,20 @@
--- What the lines about symbols share.
-use Rattle.std.specs.Prelude.{ℕ, Bool, not, ◌&&◌, ◌||◌, Option}
+-- What the rows of lines mean.
+use Rattle.std.specs.Prelude.{ℕ, List, [], ◌∷◌, Some, None, Option}
+use Rattle.std.specs.Borrow.{Bor}
 use Rattle.elf.specs.Names.{Name, lawful, only_if}
-use Rattle.format.specs.Lines.{Fields, field, is_row, is_number, number_at}
+use Rattle.format.specs.Lines.{Fields, has_flag}
+use Rattle.bookline.specs.declared.rows.ObjectFlags.{ObjectFlags}
 
--- A line has a word, so many fields, a symbol number and a lawful name.
-abbrev pub is_symbol : Name → ℕ → Fields → Bool
-is_symbol word count l = is_row word count l && is_number 65535 (field l 1) && lawful (field l 2)
+-- What the number of an `object` line tells.
+abbrev pub flags_of : ℕ → ObjectFlags
+flags_of n = record { symbolic = has_flag 1 n; versioned = has_flag 2 n }
 
--- The symbol number and the name of such a line.
-abbrev pub symbol_row : Name → ℕ → Fields → Option (ℕ × Name)
-symbol_row word count l = only_if (is_symbol word count l) (number_at l 1, field l 2)
+-- The name and the index of a version.
+abbrev pub version_of : Bor (List ℕ) × ℕ → Name × ℕ
+version_of v = (v.0.now, v.1)
 
--- A version is lawful where it is told.
-abbrev pub version_holds : Bool → Name → Bool
-version_holds told version = not told || lawful version
-
--- A version, none where it is not told.
-abbrev pub told_version : Bool → Name → Option (Option Name)
-told_version told version = only_if (version_holds told version) (only_if told version)
+-- The version in what is left of a line about a symbol: one lawful field, or none.
+abbrev pub version_in : Fields → Option (Option Name)
+version_in [] = Some None
+version_in (v ∷ []) = only_if (lawful v) (Some v)
+version_in (v ∷ (w ∷ vs)) = None

@@ -1,55 +1,55 @@
 // The lines of a book, each read from its fields.
-ghost use Rattle.std.specs.Prelude.{◌≡◌, if◌then◌else◌};
+ghost use Rattle.std.specs.Prelude.{◌≡◌, ◌<◌};
 ghost use Rattle.std.specs.Option.{option_map};
 ghost use Rattle.elf.specs.Names.{bytes_of, only_if, names_of};
 ghost use Rattle.elf.specs.Stored.{definition_of, reference_of, need_of};
-ghost use Rattle.format.specs.Lines.{field as field_of, is_row, is_number, number_at, is_object, name_row, want_row, version_row, def_row, ref_row};
-ghost use Rattle.bookline.specs.Rows.{symbol_row, told_version};
+ghost use Rattle.format.specs.Lines.{has_flag, number_at, is_object, name_row, want_row, version_row, def_row, ref_row};
+ghost use Rattle.bookline.specs.Rows.{flags_of, version_of, version_in};
 
 use super::text::number;
-use elf::name::{equal, is_lawful};
+use elf::name::is_lawful;
 use elf::symbol::{Definition, Reference, VersionNeed};
 
-// A field of a line; past the last there is nothing.
-fn field<'a>(fields: &[&'a [u8]], place: usize) -> &'a [u8]
-    ensures { result.now ≡ field_of (names_of fields.now) place }
-{
-    match fields.get(place) {
-        Some(found) => *found,
-        None => &[],
-    }
+// What the flags of an `object` line tell.
+#[derive(Clone, Copy, PartialEq, Eq, Debug)]
+pub struct ObjectFlags {
+    pub symbolic: bool,
+    pub versioned: bool,
 }
 
-// Whether a line has a word and so many fields in all.
-fn is_row(word: &[u8], count: usize, fields: &[&[u8]]) -> bool
-    ensures { result ≡ is_row word.now count (names_of fields.now) }
+// Whether the bit of a value is set in summed flags.
+fn has_flag(bit: u16, flags: u16) -> bool
+    requires { 0 < bit }
+    ensures { result ≡ has_flag bit flags }
 {
-    fields.len() == count && equal(field(fields, 0), word)
-}
-
-// The number in a field, if it is at most `most`.
-fn number_at(most: u16, fields: &[&[u8]], place: usize) -> Option<u16>
-    ensures { result ≡ only_if (is_number most (field_of (names_of fields.now) place)) (number_at (names_of fields.now) place) }
-{
-    number(most, field(fields, place))
+    flags / bit % 2 == 1
 }
 
 // The flags of an `object` line.
-pub fn object_row(fields: &[&[u8]]) -> Option<u16>
-    ensures { result ≡ only_if (is_object (names_of fields.now)) (number_at (names_of fields.now) 1) }
+pub fn object_row(fields: &[&[u8]]) -> Option<ObjectFlags>
+    ensures { result ≡ only_if (is_object (names_of fields.now)) (flags_of (number_at (names_of fields.now) 1)) }
 {
-    if !is_row(b"object", 2, fields) {
+    let [word, digits] = *fields else {
+        return None;
+    };
+    if word != b"object".as_slice() {
         return None;
     }
-    number_at(3, fields, 1)
+    let flags = number(3, digits)?;
+    Some(ObjectFlags {
+        symbolic: has_flag(1, flags),
+        versioned: has_flag(2, flags),
+    })
 }
 
 // The name of a `soname` or `needed` line.
-pub fn name_row<'a>(word: &[u8], fields: &[&'a [u8]]) -> Option<&'a [u8]>
-    ensures { bytes_of result ≡ name_row word.now (names_of fields.now) }
+pub fn name_row<'a>(wanted: &[u8], fields: &[&'a [u8]]) -> Option<&'a [u8]>
+    ensures { bytes_of result ≡ name_row wanted.now (names_of fields.now) }
 {
-    let name = field(fields, 1);
-    if !is_row(word, 2, fields) || !is_lawful(name) {
+    let [word, name] = *fields else {
+        return None;
+    };
+    if word != wanted || !is_lawful(name) {
         return None;
     }
     Some(name)
@@ -59,108 +59,96 @@ pub fn name_row<'a>(word: &[u8], fields: &[&'a [u8]]) -> Option<&'a [u8]>
 pub fn want_row<'a>(fields: &[&'a [u8]]) -> Option<VersionNeed<'a>>
     ensures { option_map need_of result ≡ want_row (names_of fields.now) }
 {
-    let file = field(fields, 1);
-    let version = field(fields, 2);
-    if !is_row(b"want", 4, fields) || !is_lawful(file) || !is_lawful(version) {
+    let [word, file, version, flags] = *fields else {
+        return None;
+    };
+    if word != b"want".as_slice() || !is_lawful(file) || !is_lawful(version) {
         return None;
     }
-    let flags = number_at(1, fields, 3)?;
+    let weak = has_flag(1, number(1, flags)?);
     Some(VersionNeed {
         file,
         version,
-        weak: flags % 2 == 1,
+        weak,
     })
 }
 
 // The name and the index of a `version` line.
 pub fn version_row<'a>(fields: &[&'a [u8]]) -> Option<(&'a [u8], u16)>
-    ensures { option_map (λ v. (v.0.now, v.1)) result ≡ version_row (names_of fields.now) }
+    ensures { option_map version_of result ≡ version_row (names_of fields.now) }
 {
-    let name = field(fields, 1);
-    if !is_row(b"version", 3, fields) || !is_lawful(name) {
+    let [word, name, index] = *fields else {
+        return None;
+    };
+    if word != b"version".as_slice() || !is_lawful(name) {
         return None;
     }
-    let index = number_at(255, fields, 2)?;
+    let index = number(255, index)?;
     if index < 2 {
         return None;
     }
     Some((name, index))
 }
 
-// The number and the name of a line about a symbol.
-fn symbol_row<'a>(word: &[u8], count: usize, fields: &[&'a [u8]]) -> Option<(u16, &'a [u8])>
-    ensures { option_map (λ s. (s.0, s.1.now)) result ≡ symbol_row word.now count (names_of fields.now) }
+// The version in what is left of a line about a symbol: one lawful field, or none.
+fn version_in<'a>(rest: &[&'a [u8]]) -> Option<Option<&'a [u8]>>
+    ensures { option_map bytes_of result ≡ version_in (names_of rest.now) }
 {
-    let name = field(fields, 2);
-    if !is_row(word, count, fields) || !is_lawful(name) {
-        return None;
+    match *rest {
+        [] => Some(None),
+        [version] if is_lawful(version) => Some(Some(version)),
+        _ => None,
     }
-    let symbol = number_at(65535, fields, 1)?;
-    Some((symbol, name))
-}
-
-// The version in a field: none where it is not told, and else a lawful one.
-fn told_version<'a>(told: bool, fields: &[&'a [u8]], place: usize) -> Option<Option<&'a [u8]>>
-    ensures { option_map bytes_of result ≡ told_version told (field_of (names_of fields.now) place) }
-{
-    if !told {
-        return Some(None);
-    }
-    let version = field(fields, place);
-    if !is_lawful(version) {
-        return None;
-    }
-    Some(Some(version))
-}
-
-// The first count where something is told, else the second.
-fn count_if(told: bool, with: usize, without: usize) -> usize
-    ensures { result ≡ (if told then with else without) }
-{
-    if told { with } else { without }
 }
 
 // The definition of a `def` line; the top bit of its index hides it, and from index 2 on it has a version.
 pub fn def_row<'a>(fields: &[&'a [u8]]) -> Option<Definition<'a>>
     ensures { option_map definition_of result ≡ def_row (names_of fields.now) }
 {
-    let versym = number_at(65535, fields, 3)?;
-    let flags = number_at(3, fields, 4)?;
+    let [word, symbol, name, versym, flags, rest @ ..] = fields else {
+        return None;
+    };
+    if *word != b"def".as_slice() || !is_lawful(name) {
+        return None;
+    }
+    let symbol = number(65535, symbol)?;
+    let versym = number(65535, versym)?;
+    let flags = number(3, flags)?;
+    let version = version_in(rest)?;
     let index = versym % 32768;
-    let told = index >= 2;
-    let (number, name) = symbol_row(b"def", count_if(told, 6, 5), fields)?;
-    let version = told_version(told, fields, 5)?;
-    let hidden = versym >= 32768;
-    let weak = flags % 2 == 1;
-    let protected = flags / 2 % 2 == 1;
+    if version.is_some() != (index >= 2) {
+        return None;
+    }
     Some(Definition {
-        number,
+        number: symbol,
         name,
         index,
-        hidden,
-        weak,
-        protected,
+        hidden: versym >= 32768,
+        weak: has_flag(1, flags),
+        protected: has_flag(2, flags),
         version,
     })
 }
 
-// The reference of a `ref` line, which has a version where it has a fifth field.
+// The reference of a `ref` line, which may have a version.
 pub fn ref_row<'a>(fields: &[&'a [u8]]) -> Option<Reference<'a>>
     ensures { option_map reference_of result ≡ ref_row (names_of fields.now) }
 {
-    let told = fields.len() == 5;
-    let (number, name) = symbol_row(b"ref", count_if(told, 5, 4), fields)?;
-    let flags = number_at(7, fields, 3)?;
-    let version = told_version(told, fields, 4)?;
-    let weak = flags % 2 == 1;
-    let protected = flags / 2 % 2 == 1;
-    let own = flags / 4 % 2 == 1;
+    let [word, symbol, name, flags, rest @ ..] = fields else {
+        return None;
+    };
+    if *word != b"ref".as_slice() || !is_lawful(name) {
+        return None;
+    }
+    let symbol = number(65535, symbol)?;
+    let flags = number(7, flags)?;
+    let version = version_in(rest)?;
     Some(Reference {
-        number,
+        number: symbol,
         name,
-        weak,
-        protected,
-        own,
+        weak: has_flag(1, flags),
+        protected: has_flag(2, flags),
+        own: has_flag(4, flags),
         version,
     })
 }

@@ -6,39 +6,30 @@ ghost use Rattle.format.specs.Lines.{split as split_of, is_number, value, begins
 use std::alloc::{AllocError, Global};
 
 // The parts of a text between the bytes of one value.
-pub fn split<'a>(heap: Global, text: &'a [u8], mark: u8) -> Result<Vec<&'a [u8]>, AllocError>
+pub fn split<'a>(alloc: Global, text: &'a [u8], mark: u8) -> Result<Vec<&'a [u8]>, AllocError>
     ensures { IfOk result (λ v. names_of v.items ≡ split_of mark text.now) }
 {
-    let mut parts = Vec::new(heap);
-    let mut start: usize = 0;
-    for (i, byte) in text.iter().enumerate() {
-        if *byte == mark {
-            parts.push(&text[start..i])?;
-            start = i + 1;
-        }
-    }
-    parts.push(&text[start..])?;
-    Ok(parts)
+    text.split(|byte| *byte == mark).collect(alloc)
 }
 
 // The value of a decimal number without spare zeros, if it is at most `most`.
 pub fn number(most: u16, digits: &[u8]) -> Option<u16>
     ensures { result ≡ only_if (is_number most digits.now) (value 0 digits.now) }
 {
-    if digits.len() < 1 || (digits.len() > 1 && digits[0] == b'0') {
+    if digits.is_empty() || (digits.len() > 1 && digits[0] == b'0') {
         return None;
     }
-    let mut sum: u32 = 0;
+    let mut sum: u16 = 0;
     for digit in digits {
-        if *digit < b'0' || *digit > b'9' {
+        if !digit.is_ascii_digit() {
             return None;
         }
-        sum = 10 * sum + u32::from(*digit - b'0');
-        if sum > u32::from(most) {
+        sum = sum.checked_mul(10)?.checked_add(u16::from(*digit - b'0'))?;
+        if sum > most {
             return None;
         }
     }
-    Some(sum as u16)
+    Some(sum)
 }
 
 // What stands behind the first line of a book, none if that is another line.

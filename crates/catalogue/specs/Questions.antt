@@ -3,10 +3,22 @@ use Rattle.std.specs.Prelude.{ℕ, Bool, ◌||◌, List, length, Option, ◌==�
 use Rattle.std.specs.Option.{option_map}
 use Rattle.std.specs.List.{slice_get}
 use Rattle.elf.specs.Names.{Name, named_in, and_then}
-use Rattle.elf.specs.Meaning.{Object, object, target}
+use Rattle.elf.specs.Meaning.{Reference, Object, object, target}
 use Rattle.elf.specs.Offers.{offer}
+use Rattle.catalogue.specs.declared.heads.ObjectHead.{ObjectHead}
+use Rattle.catalogue.specs.declared.heads.ReferenceHead.{ReferenceHead}
 
--- A flag or a count of an object.
+-- Whether an object is symbolic, and how long its lists are.
+abbrev pub object_head : Object → ObjectHead
+object_head o =
+    record {
+      symbolic = o.symbolic;
+      needed = length o.needed;
+      needs = length o.needs;
+      references = length o.references;
+    }
+
+-- What is asked of an object.
 abbrev pub asked : {A : Type 0} → List Object → ℕ → (Object → A) → Option A
 asked c i f = option_map f (slice_get c i)
 
@@ -21,6 +33,10 @@ needed_target c i k = and_then (slice_get (object c i).needed k) (target c)
 -- The object that a version need leads to.
 abbrev pub need_target : List Object → ℕ → ℕ → Option ℕ
 need_target c i k = and_then (slice_get (object c i).needs k) (λ v. target c v.file)
+
+-- What a reference says besides its name and its version.
+abbrev pub reference_head : Reference → ReferenceHead
+reference_head r = record { number = r.number; weak = r.weak; protected = r.protected; own = r.own }
 
 -- The version of a reference, none where it has none or does not exist.
 abbrev pub reference_version : List Object → ℕ → ℕ → Option Name

@@ -8,4 +8,4 @@ use Rattle.catalogue.specs.declared.fault.Fault.TheVariants.{Refused, Memory}
 abbrev pub Reads : {A B : Type 0} → (A → B) → Result A Fault → Result B Refusal → Type 0
 Reads meaning (Ok x) meant = meant ≡ Ok (meaning x)
 Reads meaning (Err (Refused e)) meant = meant ≡ Err e
-Reads meaning (Err Memory) meant = Unit {0}
+Reads meaning (Err (Memory e)) meant = Unit {0}

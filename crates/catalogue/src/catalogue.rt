@@ -2,11 +2,13 @@
 ghost use Rattle.std.specs.Prelude.{◌≡◌, ℕ, List, length};
 ghost use Rattle.elf.specs.Meaning.{Object};
 ghost use Rattle.catalogue.specs.Lawful.{Lawful};
-ghost use Rattle.catalogue.specs.Questions.{asked, asked_at, needed_target, need_target, need_provided, reference_version, offered};
+ghost use Rattle.catalogue.specs.Questions.{asked, asked_at, object_head, needed_target, need_target, need_provided, reference_head, reference_version, offered};
 ghost use Rattle.catalogue.specs.Buffers.{name_answer, name_buffer};
 ghost use Rattle.elf.specs.Names.{bytes_of};
 
+use super::heads::{ObjectHead, ReferenceHead};
 use elf::refusal::Refusal;
+use elf::symbol::Wanted;
 
 // A fixed list of objects. Past the end of a catalogue or of a list the answer is none.
 pub trait Catalogue {
@@ -17,18 +19,13 @@ pub trait Catalogue {
     fn count(&self) -> usize
         ensures { result ≡ length (meaning self.now) };
 
-    fn symbolic(&self, object: u16) -> Option<bool>
-        ensures { result ≡ asked (meaning self.now) object (λ o. o.symbolic) };
-
-    fn needed_count(&self, object: u16) -> Option<usize>
-        ensures { result ≡ asked (meaning self.now) object (λ o. length o.needed) };
+    // Whether an object is symbolic, and how long its lists are.
+    fn object(&self, object: u16) -> Option<ObjectHead>
+        ensures { result ≡ asked (meaning self.now) object object_head };
 
     // The object that an entry leads to; none also past the last entry.
     fn needed_target(&self, object: u16, entry: usize) -> Option<u16>
         ensures { result ≡ needed_target (meaning self.now) object entry };
-
-    fn need_count(&self, object: u16) -> Option<usize>
-        ensures { result ≡ asked (meaning self.now) object (λ o. length o.needs) };
 
     fn need_weak(&self, object: u16, need: usize) -> Option<bool>
         ensures { result ≡ asked_at (meaning self.now) object (λ o. o.needs) need (λ n. n.weak) };
@@ -40,20 +37,9 @@ pub trait Catalogue {
     fn need_provided(&self, object: u16, need: usize, by: u16) -> Option<bool>
         ensures { result ≡ need_provided (meaning self.now) object need by };
 
-    fn reference_count(&self, object: u16) -> Option<usize>
-        ensures { result ≡ asked (meaning self.now) object (λ o. length o.references) };
-
-    fn reference_number(&self, object: u16, place: usize) -> Option<u16>
-        ensures { result ≡ asked_at (meaning self.now) object (λ o. o.references) place (λ x. x.number) };
-
-    fn reference_weak(&self, object: u16, place: usize) -> Option<bool>
-        ensures { result ≡ asked_at (meaning self.now) object (λ o. o.references) place (λ x. x.weak) };
-
-    fn reference_protected(&self, object: u16, place: usize) -> Option<bool>
-        ensures { result ≡ asked_at (meaning self.now) object (λ o. o.references) place (λ x. x.protected) };
-
-    fn reference_own(&self, object: u16, place: usize) -> Option<bool>
-        ensures { result ≡ asked_at (meaning self.now) object (λ o. o.references) place (λ x. x.own) };
+    // What a reference says besides its name and its version.
+    fn reference(&self, object: u16, place: usize) -> Option<ReferenceHead>
+        ensures { result ≡ asked_at (meaning self.now) object (λ o. o.references) place reference_head };
 
     // The name is copied to the front of the buffer; a shorter buffer is refused and left as it was.
     fn reference_name(
@@ -75,6 +61,6 @@ pub trait Catalogue {
         ensures buffer { out.new ≡ name_buffer (reference_version (meaning self.now) object place) out.old };
 
     // The symbol that an object offers for a name and a version or none.
-    fn offer(&self, object: u16, name: &[u8], version: Option<&[u8]>) -> Option<u16>
-        ensures { result ≡ offered (meaning self.now) object name.now (bytes_of version.entry) };
+    fn offer(&self, object: u16, wanted: Wanted) -> Option<u16>
+        ensures { result ≡ offered (meaning self.now) object wanted.entry.name.now (bytes_of wanted.entry.version) };
 }

@@ -9,7 +9,7 @@ use std::alloc::{AllocError, AllocFailed};
 #[derive(Clone, Copy, Debug)]
 pub enum Fault {
     Refused(Refusal),
-    Memory,
+    Memory(AllocError),
 }
 
 impl From<Refusal> for Fault {
@@ -21,17 +21,17 @@ impl From<Refusal> for Fault {
 }
 
 impl From<AllocError> for Fault {
-    ghost from_gives = { λ _ r. r ≡ Memory };
+    ghost from_gives = { λ e r. r ≡ Memory e };
 
-    fn from(_error: AllocError) -> Fault {
-        Fault::Memory
+    fn from(error: AllocError) -> Fault {
+        Fault::Memory(error)
     }
 }
 
 impl<T: Drop> From<AllocFailed<T>> for Fault {
-    ghost from_gives = { λ _ r. r ≡ Memory };
+    ghost from_gives = { λ _ r. (e : _) × (r ≡ Memory e) };
 
-    fn from(_error: AllocFailed<T>) -> Fault {
-        Fault::Memory
+    fn from(error: AllocFailed<T>) -> Fault {
+        Fault::Memory(AllocError::from(error))
     }
 }

@@ -3,4 +3,5 @@
 
 pub mod catalogue;
 pub mod fault;
+pub mod heads;
 pub mod name;

@@ -1,5 +1,5 @@
 -- A report, line by line.
-use Rattle.std.proofs.Common.{◌≡◌, ℕ, zero, suc, ◌+◌, ◌-◌, ◌<◌, ◌≤◌, false, ltb, List, [], ◌∷◌, ◌++◌, length, take, drop, None, Ok, sym, refl, ap, ◌∙◌, append_assoc, append-nil, arith}
+use Rattle.std.proofs.Common.{◌≡◌, ℕ, zero, suc, ◌+◌, ◌<◌, ◌≤◌, false, ltb, List, [], ◌∷◌, ◌++◌, length, take, drop, None, Ok, sym, refl, ap, ◌∙◌, append_assoc, append-nil, arith}
 use Rattle.std.proofs.lemmas.List.{take_at}
 use Rattle.std.proofs.lemmas.Bool.Decides.{nat_tests}
 use Rattle.elf.specs.declared.refusal.Refusal.TheVariants.{ShortBuffer}
@@ -22,13 +22,12 @@ report_more (l ∷ ls) (suc n) h =
 -- a buffer that is long enough begins with the bytes after a call that was granted
 pub front :
     (bytes buffer after_call : List ℕ) (n : ℕ) → length bytes ≤ length buffer → Ok n ≡ write_answer bytes (length buffer) →
-    after_call ≡ written_front bytes buffer → take (n - 0) after_call ≡ bytes
+    after_call ≡ written_front bytes buffer → take n after_call ≡ bytes
 front bytes buffer after_call n fits e f =
     let s : ltb (length buffer) (length bytes) ≡ false = grind (arith, nat_tests) in
     let none : short bytes (length buffer) ≡ None = ap (λ b. only_if b (ShortBuffer (length bytes))) s in
     let granted : write_answer bytes (length buffer) ≡ Ok (length bytes) = ap (λ r. answer r (length bytes)) none in
     let count : n ≡ length bytes = cc in
-    let z : n - 0 ≡ length bytes = omega (arith, count) in
-    ap (λ k. take k after_call) z
+    ap (λ k. take k after_call) count
     ∙ ap (take (length bytes)) (f ∙ ap (λ r. after r buffer (bytes ++ drop (length bytes) buffer)) none)
     ∙ take_at bytes (drop (length bytes) buffer) (length bytes) refl

@@ -2,8 +2,7 @@
 ghost use Rattle.std.specs.Prelude.{◌≡◌, IfOk, Ok, vec_items};
 ghost use Rattle.catalogue.specs.Reading.{Reads};
 ghost use Rattle.session.specs.Lines.{lines};
-ghost use Rattle.session.specs.View.{view};
-ghost use Rattle.checker.specs.Linkbook.{linkbook as linkbook_of, book_report, report as report_of};
+ghost use Rattle.checker.specs.Linkbook.{linkbook as linkbook_of, book_report, report, report_of as catalogue_report};
 
 use book::whole::Book;
 use catalogue::fault::Fault;
@@ -19,39 +18,45 @@ use std::alloc::{AllocError, Global};
 const MOST: usize = 65536;
 
 // The lines of a linked session's report, one behind the other.
-fn report<S: Scope>(heap: Global, session: &Linked<S>) -> Result<Vec<u8>, Fault>
-    requires { S.Scope.lawful session.now.scope }
-    ensures { Reads vec_items result (Ok (report_of (lines (view (S.Scope.objects session.now.scope) (S.Scope.order session.now.scope) session.now.tables).linkage))) }
+fn report<S: Scope>(alloc: Global, session: &Linked<S>) -> Result<Vec<u8>, Fault>
+    ensures { Reads vec_items result (Ok (report (lines session.now.state.linkage))) }
 {
-    let mut text = Vec::new(heap);
+    let mut text = Vec::new(alloc);
     let mut line = [0; 320];
     for n in 0..session.line_count() {
         let length = session.line(n, &mut line)?;
-        text.extend_from_slice(&line[0..length])?;
+        text.extend_from_slice(&line[..length])?;
     }
     Ok(text)
 }
 
-// The report of a book, linked at object 0.
-fn report_book(heap: Global, text: &[u8]) -> Result<Vec<u8>, Fault>
+// The report of a scope's catalogue, linked at object 0.
+fn linked_report<S: Scope + Drop>(alloc: Global, scope: S) -> Result<Vec<u8>, Fault>
+    ensures { Reads vec_items result (catalogue_report (S.Scope.objects scope)) }
+{
+    let mut setup = Setup::new(scope);
+    setup.try_link(0)?;
+    report(alloc, &setup.link())
+}
+
+// The report of a book, or its refusal.
+fn report_book(alloc: Global, text: &[u8]) -> Result<Vec<u8>, Fault>
     ensures { Reads vec_items result (book_report text.now) }
 {
     if text.len() > MOST {
-        return Err(Fault::Refused(Refusal::BookTooLong));
+        return Err(Refusal::BookTooLong.into());
     }
-    let book = Book::read(heap, text)?;
-    let mut setup = Setup::new(LoadOrder::new(book));
-    setup.try_link(0)?;
-    report(heap, &setup.link())
+    let book = Book::read(alloc, text)?;
+    linked_report(alloc, LoadOrder::new(book))
 }
 
 // What `linkbook` prints, or want of memory.
-pub fn linkbook(heap: Global, text: &[u8]) -> Result<Vec<u8>, AllocError>
+pub fn linkbook(alloc: Global, text: &[u8]) -> Result<Vec<u8>, AllocError>
     ensures { IfOk result (λ v. v.items ≡ linkbook_of text.now) }
 {
-    match report_book(heap, text) {
+    match report_book(alloc, text) {
         Ok(report) => Ok(report),
-        Err(Fault::Refused(refusal)) => Vec::from_slice(heap, refusal_line(&refusal).bytes()),
-        Err(Fault::Memory) => Err(AllocError),
+        Err(Fault::Refused(refusal)) => Vec::from_slice(alloc, refusal_line(&refusal).bytes()),
+        Err(Fault::Memory(error)) => Err(error),
     }
 }

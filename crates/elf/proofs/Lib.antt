@@ -1,4 +1,3 @@
 -- Lemmas of this crate.
-pub mod Counting
-pub mod FirstPick
 pub mod Choices
+pub mod Counting

@@ -3,5 +3,4 @@ pub mod Names
 pub mod Meaning
 pub mod Offers
 pub mod Stored
-pub mod Picks
 pub mod Refusals

@@ -1,20 +1,17 @@
 -- Names, and small words on lists and choices.
-use Rattle.std.specs.Prelude.{ℕ, suc, Bool, true, false, cond, ◌&&◌, ◌||◌, List, [], ◌∷◌, map, length, Some, None, Option, nat_le}
+use Rattle.std.specs.Prelude.{ℕ, suc, Bool, false, cond, ◌&&◌, ◌||◌, List, [], ◌∷◌, map, length, Some, None, Option, nat_le}
 use Rattle.std.specs.Borrow.{Bor}
+use Rattle.std.specs.List.{list_all}
+use Rattle.std.specs.Option.{option_or}
 use Rattle.std.specs.Str.{bytes_eq}
 
 -- A name or a version is its bytes.
 abbrev pub Name : Type 0
 Name = List ℕ
 
--- Does a test hold of all?
-abbrev pub all : {A : Type 0} → (A → Bool) → List A → Bool
-all p [] = true
-all p (x ∷ xs) = p x && all p xs
-
 -- A lawful name has 1 to 255 bytes from 0x21 to 0x7E.
 abbrev pub lawful : Name → Bool
-lawful n = nat_le 1 (length n) && nat_le (length n) 255 && all (λ b. nat_le 0x21 b && nat_le b 0x7E) n
+lawful n = nat_le 1 (length n) && nat_le (length n) 255 && list_all (λ b. nat_le 0x21 b && nat_le b 0x7E) n
 
 -- Is a name told, and this one?
 abbrev pub is_name : Option Name → Name → Bool
@@ -25,11 +22,6 @@ is_name (Some m) n = bytes_eq m n
 abbrev pub named_in : Name → List Name → Bool
 named_in n [] = false
 named_in n (m ∷ ms) = bytes_eq m n || named_in n ms
-
--- The first answer, or else the second.
-abbrev pub or_else : {A : Type 0} → Option A → Option A → Option A
-or_else None b = b
-or_else (Some x) b = Some x
 
 -- An answer led on, none where there is none.
 abbrev pub and_then : {A B : Type 0} → Option A → (A → Option B) → Option B
@@ -43,12 +35,12 @@ only_if b x = cond b (Some x) None
 -- The first answer that a question gets along a list.
 abbrev pub first : {A B : Type 0} → (A → Option B) → List A → Option B
 first f [] = None
-first f (x ∷ xs) = or_else (f x) (first f xs)
+first f (x ∷ xs) = option_or (f x) (first f xs)
 
 -- The same, where the question also takes the place, counted from k.
 abbrev pub first_from : {A B : Type 0} → ℕ → (ℕ → A → Option B) → List A → Option B
 first_from k f [] = None
-first_from k f (x ∷ xs) = or_else (f k x) (first_from (suc k) f xs)
+first_from k f (x ∷ xs) = option_or (f k x) (first_from (suc k) f xs)
 
 -- The answers there are, in order.
 abbrev pub somes : {A : Type 0} → List (Option A) → List A

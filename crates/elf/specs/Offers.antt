@@ -1,7 +1,8 @@
 -- An offer: the definition that an object gives to a name and a wanted version, or none.
 use Rattle.std.specs.Prelude.{ℕ, Bool, cond, not, ◌&&◌, ◌||◌, List, [], ◌∷◌, Some, None, filter, Option, ◌==◌, nat_le}
+use Rattle.std.specs.Option.{option_or}
 use Rattle.std.specs.Str.{bytes_eq}
-use Rattle.elf.specs.Names.{Name, is_name, or_else}
+use Rattle.elf.specs.Names.{Name, is_name}
 use Rattle.elf.specs.Meaning.{Definition, Object}
 
 -- The definitions of a name.
@@ -34,7 +35,7 @@ visible d = nat_le 3 d.index && not d.hidden
 -- The pick among the definitions of a name in an object with symbol versions.
 abbrev pub versioned_pick : List Definition → Option Name → Option ℕ
 versioned_pick ds (Some v) = lowest (filter (serves v) ds)
-versioned_pick ds None = or_else (lowest (filter basic ds)) (sole (filter visible ds))
+versioned_pick ds None = option_or (lowest (filter basic ds)) (sole (filter visible ds))
 
 -- The symbol number offered; without symbol versions the wanted version does not count.
 abbrev pub offer_among : Bool → List Definition → Name → Option Name → Option ℕ

@@ -1,30 +1,17 @@
 // Which definition an object offers for a name and a version or none.
-ghost use Rattle.std.specs.Prelude.{◌≡◌, map};
+ghost use Rattle.std.specs.Prelude.{◌≡◌, filter, map};
 ghost use Rattle.elf.specs.Names.{bytes_of};
-ghost use Rattle.elf.specs.Offers.{offer_among, serves as serving, basic, visible, lowest as lowest_of, sole};
-ghost use Rattle.elf.specs.Picks.{first_pick, fitting, counting};
+ghost use Rattle.elf.specs.Offers.{offer_among, definitions_of, serves as serving, basic, visible, sole};
 ghost use Rattle.elf.specs.Stored.{definition_of};
 
-use super::name::equal;
-use super::symbol::Definition;
-
-// Which of the definitions of a name count.
-#[derive(Clone, Copy)]
-enum Pick<'a> {
-    Any,
-    Serving(&'a [u8]),
-    Basic,
-}
+use super::symbol::{Definition, Wanted};
 
 impl Definition<'_> {
     // Whether it has the version, hidden or not, or has index 1 and is not hidden.
     fn serves(&self, version: &[u8]) -> bool
         ensures { result ≡ serving version.now (definition_of self.now) }
     {
-        match self.version {
-            Some(own) => equal(own, version) || self.index == 1 && !self.hidden,
-            None => self.index == 1 && !self.hidden,
-        }
+        self.version.is_some_and(|own| own == version) || self.index == 1 && !self.hidden
     }
 
     // Whether it has index 1 or 2, hidden or not.
@@ -42,72 +29,35 @@ impl Definition<'_> {
     }
 }
 
-impl<'a> Pick<'a> {
-    // What is looked for first; without symbol versions the wanted version does not count.
-    fn new(versioned: bool, version: Option<&'a [u8]>) -> Pick<'a>
-        ensures { result ≡ first_pick versioned version.entry }
-    {
-        match (versioned, version) {
-            (false, _) => Pick::Any,
-            (true, Some(version)) => Pick::Serving(version),
-            (true, None) => Pick::Basic,
-        }
-    }
-
-    fn fits(&self, definition: &Definition) -> bool
-        ensures { result ≡ fitting self.now (definition_of definition.now) }
-    {
-        match *self {
-            Pick::Any => true,
-            Pick::Serving(version) => definition.serves(version),
-            Pick::Basic => definition.is_basic(),
-        }
-    }
-}
-
-// The lowest-numbered definition of a name that counts.
-fn lowest(definitions: &[Definition], name: &[u8], pick: Pick) -> Option<u16>
-    ensures { result ≡ lowest_of (counting (fitting pick.entry) definitions.now name.now) }
-{
-    for definition in definitions {
-        if equal(definition.name, name) && pick.fits(definition) {
-            return Some(definition.number);
-        }
-    }
-    None
-}
-
 // The only visible definition of a name; of several, none.
 fn only_visible(definitions: &[Definition], name: &[u8]) -> Option<u16>
-    ensures { result ≡ sole (counting visible definitions.now name.now) }
+    ensures { result ≡ sole (filter visible (definitions_of (map definition_of definitions.now) name.now)) }
 {
-    let mut found: Option<u16> = None;
-    for definition in definitions {
-        if equal(definition.name, name) && definition.is_visible() {
-            if found.is_some() {
-                return None;
-            }
-            found = Some(definition.number);
-        }
+    let mut found = definitions.iter().filter(|definition| definition.name == name
+        && definition.is_visible());
+    let only = found.next()?;
+    match found.next() {
+        Some(_) => None,
+        None => Some(only.number),
     }
-    found
 }
 
-// The symbol number that an object offers; its definitions stand by rising number.
-pub fn offer(
-    versioned: bool,
-    definitions: &[Definition],
-    name: &[u8],
-    version: Option<&[u8]>,
-) -> Option<u16>
-    ensures { result ≡ offer_among versioned (map definition_of definitions.now) name.now (bytes_of version.entry) }
+// The symbol number that an object offers; its definitions stand by rising number. Without symbol versions the
+// wanted version does not count.
+pub fn offer(versioned: bool, definitions: &[Definition], wanted: Wanted) -> Option<u16>
+    ensures { result ≡ offer_among versioned (map definition_of definitions.now) wanted.entry.name.now (bytes_of wanted.entry.version) }
 {
-    let pick = Pick::new(versioned, version);
-    match lowest(definitions, name, pick) {
-        Some(number) => Some(number),
-        None => match pick {
-            Pick::Basic => only_visible(definitions, name),
-            _ => None,
+    let mut named = definitions
+        .iter()
+        .filter(|definition| definition.name == wanted.name);
+    match wanted.version {
+        _ if !versioned => named.next().map(|definition| definition.number),
+        Some(version) => named
+            .find(|definition| definition.serves(version))
+            .map(|definition| definition.number),
+        None => match named.find(|definition| definition.is_basic()) {
+            Some(definition) => Some(definition.number),
+            None => only_visible(definitions, wanted.name),
         },
     }
 }

@@ -30,3 +30,10 @@ pub struct VersionNeed<'a> {
     pub version: &'a [u8],
     pub weak: bool,
 }
+
+// What is looked up: a name, and a version or none.
+#[derive(Clone, Copy)]
+pub struct Wanted<'a> {
+    pub name: &'a [u8],
+    pub version: Option<&'a [u8]>,
+}

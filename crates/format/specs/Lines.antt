@@ -2,7 +2,8 @@
 use Rattle.std.specs.Prelude.{ℕ, ◌+◌, ◌-◌, ◌*◌, ◌/◌, ◌%◌, Bool, true, cond, not, ◌&&◌, ◌||◌, leb, List, [], ◌∷◌, map, length, codes, Option, ◌==◌, nat_eq, nat_le, nat_lt, slice_index, slice_index_or}
 use Rattle.std.specs.Str.{bytes_eq}
 use Rattle.graph.specs.Graph.{among}
-use Rattle.elf.specs.Names.{Name, all, lawful, only_if}
+use Rattle.std.specs.List.{list_all}
+use Rattle.elf.specs.Names.{Name, lawful, only_if}
 use Rattle.elf.specs.Meaning.{Definition, Reference, VersionNeed, numbered}
 use Rattle.catalogue.specs.Lawful.{index_fits, agrees}
 
@@ -42,7 +43,7 @@ value n (d ∷ ds) = value (10 * n + (d - 48)) ds
 
 -- Digits, at least one.
 abbrev pub is_digits : List ℕ → Bool
-is_digits ds = nat_le 1 (length ds) && all (λ d. nat_le 48 d && nat_le d 57) ds
+is_digits ds = nat_le 1 (length ds) && list_all (λ d. nat_le 48 d && nat_le d 57) ds
 
 -- A decimal number without spare zeros, at most a limit.
 abbrev pub is_number : ℕ → List ℕ → Bool

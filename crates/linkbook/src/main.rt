@@ -8,16 +8,10 @@ use std::io::{Read, Write};
 // One byte more than a book may have: enough to tell that one is too long.
 const LIMIT: u64 = 65537;
 
-fn run(rt: &HostRuntime) -> anyhow::Result<()> {
+fn main(rt: HostRuntime) -> anyhow::Result<()> {
     let mut text = Vec::new(rt.alloc());
     rt.stdin().take(LIMIT).read_to_end(&mut text)?;
-    match linkbook(rt.alloc(), text.as_slice()) {
-        Ok(output) => rt.stdout().write_all(output.as_slice())?,
-        Err(_) => return Err(anyhow!("no memory")),
-    }
+    let output = linkbook(rt.alloc(), &text).map_err(|_| anyhow!("no memory"))?;
+    rt.stdout().write_all(&output)?;
     Ok(())
-}
-
-fn main(rt: HostRuntime) -> anyhow::Result<()> {
-    run(&rt)
 }

@@ -1,17 +1,17 @@
 -- What a join and a leave keep of an order.
-use Rattle.std.proofs.Common.{◌≡◌, ℕ, ◌<◌, false, not, eqb, List, [], ◌∷◌, ◌++◌, length, sym, subst, inl, inr, arith}
+use Rattle.std.proofs.Common.{◌≡◌, ℕ, ◌<◌, Bool, false, not, eqb, List, [], ◌∷◌, ◌++◌, length, sym, subst, inl, inr, arith, Ok}
 use Rattle.std.proofs.lemmas.List.{length_push}
+use Rattle.std.specs.List.Retain.{RetainsInTurn}
+use Rattle.arrayvec.proofs.ArrayVecLemmas.{filter-from_retain}
+use Rattle.std.proofs.lemmas.Bool.Decides.{nat_tests}
 use Rattle.graph.specs.Graph.{among, Below}
-use Rattle.graph.proofs.Members.{in_none, in_one, in_append, not_in, distinct_push}
+use Rattle.graph.proofs.Members.{in_one, in_append, not_in, distinct_push}
 use Rattle.graph.proofs.Room.{distinct_length}
 use Rattle.graph.proofs.Laws.{kept_in, distinct_kept}
 use Rattle.elf.specs.Meaning.{Object}
 use Rattle.catalogue.specs.Lawful.{Lawful}
-use Rattle.scope.specs.Orders.{LawfulOrder, without}
-
-pub lawful_none : (c : List Object) (order : List ℕ) → order ≡ [] → LawfulOrder c order
-lawful_none c order e =
-    subst (λ (os : List ℕ). LawfulOrder c os) (sym e) (record { once = tt; known = λ x i. in_none i })
+use Rattle.elf.specs.Refusals.{answer}
+use Rattle.scope.specs.Orders.{LawfulOrder, unknown, without}
 
 below_push : (n : ℕ) (order : List ℕ) (o : ℕ) → Below n order → o < n → Below n (order ++ o ∷ [])
 below_push n order o b h x i =
@@ -51,3 +51,15 @@ lawful_without c order after o l e =
       once = distinct_kept (λ p. not (eqb p o)) order l.once;
       known = λ x i. l.known x (kept_in (λ p. not (eqb p o)) x order i).0;
     })
+
+-- what `retain` leaves of an order, where each call keeps the others
+pub retained :
+    {F : Type 0} (R : F → ℕ → Bool → F → ℕ → Type 0) (f : F) (order after : List ℕ) (o : ℕ) → RetainsInTurn R f order after →
+    ((x : ℕ) (b : Bool) (h : F) (y : ℕ) → R f x b h y → (b ≡ not (eqb x o)) × (h ≡ f) × (y ≡ x)) →
+    after ≡ without o order
+retained R f order after o r says = filter-from_retain R (λ p. not (eqb p o)) f says order after r
+
+-- an object that passes the test stands in the catalogue
+pub in_catalogue :
+    (c : List Object) (o : ℕ) (u : Unit {0}) → Ok u ≡ answer (unknown c o) tt → o < length c
+in_catalogue c o u e = grind (arith, nat_tests)

@@ -1,3 +1,3 @@
 -- The meaning of scopes.
 pub mod Orders
-pub mod Listed
+pub mod OrderProp

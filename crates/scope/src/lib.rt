@@ -1,6 +1,6 @@
-// Scopes: the trait, the plain load order, and a list of objects without memory of its own to ask for.
+// Scopes: the trait, and the plain load order.
 #![tactic(auto)]
 
-pub mod list;
+pub mod known;
 pub mod order;
 pub mod scope;

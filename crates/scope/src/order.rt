@@ -1,30 +1,32 @@
 // The plain load order: objects of a catalogue in the order in which they joined.
 ghost use Rattle.std.specs.Prelude.{◌≡◌, []};
-ghost use Rattle.scope.specs.Listed.{listed};
 ghost use Rattle.scope.specs.Orders.{LawfulOrder};
+ghost use Rattle.scope.specs.OrderProp.{lawful_order_prop};
 
-use super::list::table::ObjectList;
+use super::known::check_known;
 use super::scope::Scope;
+use arrayvec::ArrayVec;
 use catalogue::catalogue::Catalogue;
 use elf::refusal::Refusal;
+use elf::symbol::Wanted;
 
-// A catalogue and the objects that joined.
+// A catalogue and the objects that joined, at most 64, as a catalogue has no more.
 #[derive(Drop)]
-pub struct LoadOrder<C> {
+pub struct LoadOrder<C: Catalogue> {
     catalogue: C,
-    objects: ObjectList,
+    objects: ArrayVec<u16, 64>,
+    ghost lawful: { LawfulOrder (C.Catalogue.meaning catalogue) objects.items } by { lawful_order_prop (C.Catalogue.meaning catalogue) objects.items },
 }
 
 impl<C: Catalogue> LoadOrder<C> {
     // An order that no object has joined yet.
     pub fn new(catalogue: C) -> LoadOrder<C>
-        ensures lawful { LawfulOrder (C.Catalogue.meaning result.catalogue) (listed result.objects) }
         ensures objects { C.Catalogue.meaning result.catalogue ≡ C.Catalogue.meaning catalogue }
-        ensures order { listed result.objects ≡ [] }
+        ensures order { result.objects.items ≡ [] }
     {
         LoadOrder {
             catalogue,
-            objects: ObjectList::new(),
+            objects: ArrayVec::new(),
         }
     }
 }
@@ -34,47 +36,32 @@ impl<C: Catalogue> Scope for LoadOrder<C> {
 
     ghost objects = { λ s. C.Catalogue.meaning s.catalogue };
 
-    ghost order = { λ s. listed s.objects };
+    ghost order = { λ s. s.objects.items };
 
-    ghost lawful = { λ s. LawfulOrder (C.Catalogue.meaning s.catalogue) (listed s.objects) };
+    ghost ordered = { λ s. s.lawful };
 
-    ghost ordered = { λ s h. h };
-
-    ghost kept = { λ s h. C.Catalogue.kept s.catalogue };
+    ghost kept = { λ s. C.Catalogue.kept s.catalogue };
 
     fn catalogue(&self) -> &C {
         &self.catalogue
     }
 
-    fn len(&self) -> usize {
-        self.objects.len()
+    fn order(&self) -> &[u16] {
+        self.objects.as_slice()
     }
 
-    fn at(&self, place: usize) -> Option<u16> {
-        if place < self.objects.len() {
-            Some(self.objects.at(place))
-        } else {
-            None
-        }
-    }
-
-    fn find(&mut self, name: &[u8], version: Option<&[u8]>) -> Option<(u16, u16)> {
-        for place in 0..self.objects.len() {
-            let object = self.objects.at(place);
-            if let Some(symbol) = self.catalogue.offer(object, name, version) {
-                return Some((object, symbol));
+    fn find(&mut self, wanted: Wanted) -> Option<(u16, u16)> {
+        for object in self.objects.as_slice() {
+            if let Some(symbol) = self.catalogue.offer(*object, wanted) {
+                return Some((*object, symbol));
             }
         }
         None
     }
 
     fn join(&mut self, object: u16) -> Result<(), Refusal> {
-        if usize::from(object) >= self.catalogue.count() {
-            return Err(Refusal::Unknown {
-                object: usize::from(object),
-            });
-        }
-        if self.objects.has(object) {
+        check_known(&self.catalogue, object)?;
+        if self.objects.contains(&object) {
             return Err(Refusal::Twice {
                 object: usize::from(object),
             });
@@ -84,12 +71,12 @@ impl<C: Catalogue> Scope for LoadOrder<C> {
     }
 
     fn leave(&mut self, object: u16) -> Result<(), Refusal> {
-        if !self.objects.has(object) {
+        if !self.objects.contains(&object) {
             return Err(Refusal::NotThere {
                 object: usize::from(object),
             });
         }
-        self.objects.remove(object);
+        self.objects.retain(|other| *other != object);
         Ok(())
     }
 }

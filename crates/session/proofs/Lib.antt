@@ -7,9 +7,7 @@ pub mod Told
 pub mod Copies
 pub mod Asked
 pub mod Firsts
-pub mod Recorded
 pub mod Rooms
 pub mod Checking
 pub mod Linking
-pub mod Decimals
 pub mod Reports

@@ -1,6 +1,6 @@
 -- The binding rule.
 use Rattle.std.specs.Prelude.{ℕ, cond, ◌&&◌, List, [], ◌∷◌, ◌++◌, map, Some, None, Option}
-use Rattle.elf.specs.Names.{or_else}
+use Rattle.std.specs.Option.{option_or}
 use Rattle.elf.specs.Meaning.{Object, Reference, object}
 use Rattle.elf.specs.Offers.{offer}
 use Rattle.scope.specs.Orders.{Found, found_in, find}
@@ -14,7 +14,7 @@ symbolic_offer c o r =
 -- A protected own reference takes itself; else a symbolic object's own offer is taken; else find decides.
 abbrev pub taken : List Object → List ℕ → ℕ → Reference → Option Found
 taken c order o r =
-    cond (r.own && r.protected) (Some (o, r.number)) (or_else (symbolic_offer c o r) (find c order r.name r.version))
+    cond (r.own && r.protected) (Some (o, r.number)) (option_or (symbolic_offer c o r) (find c order r.name r.version))
 
 -- The bindings of an object's references, in their order.
 abbrev pub bindings_of : List Object → List ℕ → ℕ → List Binding

@@ -6,6 +6,4 @@ pub mod Checks
 pub mod Calls
 pub mod Lines
 pub mod View
-pub mod Visits
-pub mod Wants
 pub mod Texts

@@ -1,29 +1,12 @@
--- What the texts, names, rows and lines that the code holds mean.
-use Rattle.std.specs.Prelude.{ℕ, List, take}
+-- What the lines that the code holds mean.
 use Rattle.session.specs.Lines.{Line, load, init, bind, over, none}
 use Rattle.session.specs.declared.line.Line.{Line as StoredLine}
 use Rattle.session.specs.declared.line.Line.TheVariants.{Load, Init, Bind, Over, None}
-use Rattle.session.specs.declared.name.Name.{Name as StoredName}
-use Rattle.session.specs.declared.table.Row.{Row}
-use Rattle.session.specs.declared.table.Rows.{Rows}
-use Rattle.session.specs.declared.text.Text.{Text}
-
--- The bytes of a text.
-abbrev pub text_of : Text → List ℕ
-text_of t = take t.len t.bytes
-
--- The bytes of a name.
-abbrev pub name_of : StoredName → List ℕ
-name_of n = take n.len n.bytes
-
--- The rows that count.
-abbrev pub rows_of : Rows → List Row
-rows_of t = take t.used t.rows
 
 -- The line of a report.
 abbrev pub line_of : StoredLine → Line
 line_of (Load o) = load o
 line_of (Init o) = init o
-line_of (Bind s p t) = bind s.object s.number (name_of s.name) p t
-line_of (Over s p t) = over s.object s.number (name_of s.name) p t
-line_of (None s) = none s.object s.number (name_of s.name)
+line_of (Bind s p t) = bind s.object s.number s.name.items p t
+line_of (Over s p t) = over s.object s.number s.name.items p t
+line_of (None s) = none s.object s.number s.name.items

@@ -3,12 +3,10 @@
 
 mod bind;
 mod checks;
-mod digits;
 mod join;
 pub mod line;
 pub mod linked;
 mod load;
-pub mod name;
 mod reference;
 mod rows;
 pub mod setup;
@@ -16,5 +14,3 @@ mod start;
 pub mod table;
 pub mod text;
 mod walk;
-mod wanted;
-mod write;

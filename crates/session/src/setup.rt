@@ -1,75 +1,60 @@
 // A session in set-up: it takes preloads and tries to link.
-ghost use Rattle.std.specs.Prelude.{◌≡◌, ◌≤◌, true, [], ◌∷◌, ◌++◌, length, None};
-ghost use Rattle.scope.specs.Listed.{listed};
+ghost use Rattle.std.specs.Prelude.{◌≡◌, ◌+◌, ◌≤◌, true, [], ◌++◌, length};
+ghost use Rattle.scope.specs.Orders.{LawfulOrder};
 ghost use Rattle.session.specs.State.{initial, is_linked};
 ghost use Rattle.session.specs.Calls.{preload, link};
-ghost use Rattle.session.specs.View.{view, bare, InSetup};
+ghost use Rattle.session.specs.View.{bare, InSetup};
 
 use super::join::empty;
 use super::linked::Linked;
 use super::load::load;
 use super::rows::bind_all;
 use super::start::start_order;
-use super::table::{Rows, Tables};
+use super::table::Tables;
 use super::walk::new_list;
+use arrayvec::ArrayVec;
 use catalogue::catalogue::Catalogue;
 use elf::refusal::{Limit, Refusal};
-use scope::list::table::ObjectList;
+use scope::known::check_known;
 use scope::scope::Scope;
+use std::marker::Model;
 
-impl Tables {
-    pub fn new() -> Tables
-        ensures root { result.root ≡ None }
-        ensures preloads { listed result.preloads ≡ [] }
-        ensures started { listed result.started ≡ [] }
-        ensures used { result.bindings.used ≡ 0 }
-    {
-        let preloads = ObjectList::new();
-        let started = ObjectList::new();
-        Tables {
-            root: None,
-            preloads,
-            started,
-            bindings: Rows::new(),
-        }
-    }
-}
-
-// The objects that a link starts from: the root, then the preloads.
-fn link_from(root: u16, preloads: &ObjectList) -> ObjectList
-    requires { length (listed preloads.now) ≤ 4 }
-    ensures { listed result ≡ root ∷ listed preloads.now }
+// Some objects and then others: the root and the preloads, at most five.
+fn chained(first: &[u16], then: &[u16]) -> ArrayVec<u16, 5>
+    requires { length first.now + length then.now ≤ 5 }
+    ensures { result.items ≡ first.now ++ then.now }
 {
-    let mut from = ObjectList::new();
-    from.push(root);
-    from.append(preloads.as_slice());
-    from
+    let mut all = ArrayVec::new();
+    all.try_extend_from_slice(first).unwrap();
+    all.try_extend_from_slice(then).unwrap();
+    all
 }
 
-// The objects that start in turn: the preloads, then the root.
-fn start_from(root: u16, preloads: &ObjectList) -> ObjectList
-    requires { length (listed preloads.now) ≤ 4 }
-    ensures { listed result ≡ listed preloads.now ++ (root ∷ []) }
-{
-    let mut from = *preloads;
-    from.push(root);
-    from
-}
-
+// A session that takes preloads and tries to link; clauses see it as a `Session`.
 #[derive(Drop)]
-pub struct Setup<S> {
+pub struct Setup<S: Scope> {
     scope: S,
     tables: Tables,
+}
+
+impl<S: Scope> Model for Setup<S> {
+    ghost use Rattle.scope.specs.Orders.{LawfulOrder};
+    ghost use Rattle.session.specs.View.{Session, session_of};
+
+    ghost Value = { Session S };
+
+    ghost view = { λ s. session_of s.scope (S.Scope.objects s.scope) (S.Scope.order s.scope) s.tables };
+
+    ghost invariant = { λ s. LawfulOrder (S.Scope.objects s.scope) s.tables.preloads.items };
 }
 
 impl<S: Scope> Setup<S> {
     // A session over a scope, which is emptied; no preload is named.
     pub fn new(mut scope: S) -> Setup<S>
-        requires { S.Scope.lawful scope }
-        ensures lawful { S.Scope.lawful result.scope }
-        ensures objects { S.Scope.objects result.scope ≡ S.Scope.objects scope }
-        ensures state { view (S.Scope.objects scope) (S.Scope.order result.scope) result.tables ≡ initial (S.Scope.objects scope) }
-        ensures setup { InSetup (S.Scope.objects scope) (S.Scope.order result.scope) result.tables }
+        ensures objects { result.objects ≡ S.Scope.objects scope }
+        ensures scope { (S.Scope.objects result.scope ≡ S.Scope.objects scope) × (S.Scope.order result.scope ≡ []) }
+        ensures state { result.state ≡ initial (S.Scope.objects scope) }
+        ensures setup { InSetup result.state }
     {
         empty(&mut scope);
         Setup {
@@ -80,56 +65,51 @@ impl<S: Scope> Setup<S> {
 
     // Names one more object that is loaded behind the root and started before it.
     pub fn preload(&mut self, object: u16) -> Result<(), Refusal>
-        requires { InSetup (S.Scope.objects self.old.scope) (S.Scope.order self.old.scope) self.old.tables }
+        requires { InSetup self.old.state }
         ensures scope { self.new.scope ≡ self.old.scope }
-        ensures answer { bare result ≡ (preload (S.Scope.objects self.old.scope) (view (S.Scope.objects self.old.scope) (S.Scope.order self.old.scope) self.old.tables) object).answered }
-        ensures next { view (S.Scope.objects self.old.scope) (S.Scope.order self.old.scope) self.new.tables ≡ (preload (S.Scope.objects self.old.scope) (view (S.Scope.objects self.old.scope) (S.Scope.order self.old.scope) self.old.tables) object).next }
-        ensures setup { InSetup (S.Scope.objects self.old.scope) (S.Scope.order self.old.scope) self.new.tables }
+        ensures objects { self.new.objects ≡ self.old.objects }
+        ensures answer { bare result ≡ (preload self.old.objects self.old.state object).answered }
+        ensures next { self.new.state ≡ (preload self.old.objects self.old.state object).next }
+        ensures preloads { LawfulOrder self.new.objects self.new.state.preloads }
+        ensures setup { InSetup self.new.state }
     {
-        let known = object as usize;
-        if known >= self.scope.catalogue().count() {
-            return Err(Refusal::Unknown { object: known });
-        }
-        if self.tables.preloads.has(object) {
-            return Err(Refusal::Twice { object: known });
-        }
-        if self.tables.preloads.len() >= 4 {
-            return Err(Refusal::TooMany {
-                object: known,
-                what: Limit::Preloads,
+        check_known(self.scope.catalogue(), object)?;
+        if self.tables.preloads.contains(&object) {
+            return Err(Refusal::Twice {
+                object: usize::from(object),
             });
         }
-        self.tables.preloads.push(object);
-        Ok(())
+        self.tables
+            .preloads
+            .try_push(object)
+            .map_err(|_| Refusal::TooMany {
+                object: usize::from(object),
+                what: Limit::Preloads,
+            })
     }
 
     // Tries to link at a root; a refusal leaves the session as it was.
     pub fn try_link(&mut self, root: u16) -> Result<(), Refusal>
-        requires lawful { S.Scope.lawful self.old.scope }
-        requires setup { InSetup (S.Scope.objects self.old.scope) (S.Scope.order self.old.scope) self.old.tables }
-        ensures lawful { S.Scope.lawful self.new.scope }
-        ensures objects { S.Scope.objects self.new.scope ≡ S.Scope.objects self.old.scope }
-        ensures answer { bare result ≡ (link (S.Scope.objects self.old.scope) (view (S.Scope.objects self.old.scope) (S.Scope.order self.old.scope) self.old.tables) root).answered }
-        ensures next { view (S.Scope.objects self.old.scope) (S.Scope.order self.new.scope) self.new.tables ≡ (link (S.Scope.objects self.old.scope) (view (S.Scope.objects self.old.scope) (S.Scope.order self.old.scope) self.old.tables) root).next }
+        requires { InSetup self.old.state }
+        ensures objects { self.new.objects ≡ self.old.objects }
+        ensures scope { S.Scope.objects self.new.scope ≡ S.Scope.objects self.old.scope }
+        ensures answer { bare result ≡ (link self.old.objects self.old.state root).answered }
+        ensures next { self.new.state ≡ (link self.old.objects self.old.state root).next }
     {
-        let known = root as usize;
-        if known >= self.scope.catalogue().count() {
-            return Err(Refusal::Unknown { object: known });
-        }
-        let from = link_from(root, &self.tables.preloads);
-        let list = new_list(&self.scope, from.as_slice());
+        check_known(self.scope.catalogue(), root)?;
+        let list = new_list(&self.scope, &chained(&[root], &self.tables.preloads));
         load(&mut self.scope, &list)?;
         bind_all(&mut self.scope, &mut self.tables.bindings, &list);
-        let starts = start_from(root, &self.tables.preloads);
-        self.tables.started = start_order(&self.scope, &list, starts.as_slice());
+        let starts = chained(&self.tables.preloads, &[root]);
+        self.tables.started = start_order(&self.scope, &list, &starts);
         self.tables.root = Some(root);
         Ok(())
     }
 
     // The move after a granted try.
     pub fn link(self) -> Linked<S>
-        requires { is_linked (view (S.Scope.objects self.scope) (S.Scope.order self.scope) self.tables) ≡ true }
-        ensures { (result.scope ≡ self.scope) × (result.tables ≡ self.tables) }
+        requires { is_linked self.state ≡ true }
+        ensures { result ≡ self }
     {
         let Setup { scope, tables } = self;
         Linked { scope, tables }

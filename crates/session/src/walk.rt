@@ -1,102 +1,83 @@
-// What a link or an open finds by needed entries: the new objects, breadth first.
-ghost use Rattle.std.specs.Prelude.{◌≡◌, ℕ, ◌<◌, [], ◌∷◌, length};
-ghost use Rattle.graph.specs.Graph.{In, Below, among as among_of, grow};
-ghost use Rattle.elf.specs.Meaning.{object as object_of, targets};
+// What a link finds by needed entries: the new objects, breadth first.
+ghost use Rattle.std.specs.Prelude.{◌≡◌, ◌<◌, [], ◌∷◌, length};
+ghost use Rattle.graph.specs.Graph.{Apart, Below, among as among_of, grow};
+ghost use Rattle.elf.specs.Meaning.{targets};
 ghost use Rattle.catalogue.specs.Questions.{needed_target};
-ghost use Rattle.scope.specs.Listed.{listed};
 ghost use Rattle.scope.specs.Orders.{LawfulOrder};
+ghost use Rattle.scope.specs.OrderProp.{lawful_order_prop};
 ghost use Rattle.session.specs.Walks.{new_list};
 
+use super::reference::head;
+use super::table::Objects;
 use catalogue::catalogue::Catalogue;
-use scope::list::table::ObjectList;
 use scope::scope::Scope;
 
 // Whether an object is loaded.
 pub fn is_loaded<S: Scope>(scope: &S, object: u16) -> bool
     ensures { result ≡ among_of object (S.Scope.order scope.now) }
 {
-    for place in 0..scope.len() {
-        if let Some(item) = scope.at(place) {
-            if object == item {
-                return true;
-            }
-        }
-    }
-    false
-}
-
-// How many entries an object needs.
-pub fn needed_count<S: Scope>(scope: &S, object: u16) -> usize
-    ensures { result ≡ length (object_of (S.Scope.objects scope.now) object).needed }
-{
-    match scope.catalogue().needed_count(object) {
-        Some(count) => count,
-        None => 0,
-    }
+    scope.order().contains(&object)
 }
 
 // The object that a needed entry leads to.
-pub fn needed_target<S: Scope>(scope: &S, object: u16, place: usize) -> Option<u16>
-    ensures { result ≡ needed_target (S.Scope.objects scope.now) object place }
+pub fn needed_target<S: Scope>(scope: &S, object: u16, entry: usize) -> Option<u16>
+    ensures { result ≡ needed_target (S.Scope.objects scope.now) object entry }
 {
-    scope.catalogue().needed_target(object, place)
+    scope.catalogue().needed_target(object, entry)
 }
 
-// Puts an object behind a list, unless it is loaded or listed.
-fn add<S: Scope>(scope: &S, list: &mut ObjectList, object: u16)
-    requires lawful { S.Scope.lawful scope.now }
-    requires listed { LawfulOrder (S.Scope.objects scope.now) (listed list.old) }
-    requires known { object < length (S.Scope.objects scope.now) }
-    ensures list { listed list.new ≡ grow (S.Scope.order scope.now) (listed list.old) (object ∷ []) }
-    ensures lawful { LawfulOrder (S.Scope.objects scope.now) (listed list.new) }
-{
-    if !is_loaded(scope, object) && !list.has(object) {
-        list.push(object);
+// The new objects found so far, none of them loaded.
+#[derive(Drop)]
+struct NewList<'a, S: Scope> {
+    scope: &'a S,
+    list: Objects,
+    ghost lawful: { LawfulOrder (S.Scope.objects scope.now) list.items } by { lawful_order_prop (S.Scope.objects scope.now) list.items },
+}
+
+impl<'a, S: Scope> NewList<'a, S> {
+    // Puts an object behind the others, unless it is loaded or listed.
+    fn add(&mut self, object: u16)
+        requires { object < length (S.Scope.objects self.old.scope.now) }
+        ensures scope { self.new.scope.now ≡ self.old.scope.now }
+        ensures list { self.new.list.items ≡ grow (S.Scope.order self.old.scope.now) self.old.list.items (object ∷ []) }
+    {
+        if !is_loaded(self.scope, object) && !self.list.contains(&object) {
+            self.list.push(object);
+        }
     }
-}
 
-// Puts some objects behind a list, without those that are loaded or listed.
-fn add_all<S: Scope>(scope: &S, list: &mut ObjectList, objects: &[u16])
-    requires lawful { S.Scope.lawful scope.now }
-    requires listed { LawfulOrder (S.Scope.objects scope.now) (listed list.old) }
-    requires known { Below (length (S.Scope.objects scope.now)) objects.now }
-    ensures list { listed list.new ≡ grow (S.Scope.order scope.now) (listed list.old) objects.now }
-    ensures lawful { LawfulOrder (S.Scope.objects scope.now) (listed list.new) }
-{
-    for object in objects {
-        add(scope, list, *object);
-    }
-}
-
-// Puts the needed targets of an object behind a list, without those that are loaded or listed.
-fn add_needed<S: Scope>(scope: &S, list: &mut ObjectList, object: u16)
-    requires lawful { S.Scope.lawful scope.now }
-    requires listed { LawfulOrder (S.Scope.objects scope.now) (listed list.old) }
-    ensures list { listed list.new ≡ grow (S.Scope.order scope.now) (listed list.old) (targets (S.Scope.objects scope.now) object) }
-    ensures lawful { LawfulOrder (S.Scope.objects scope.now) (listed list.new) }
-{
-    for place in 0..needed_count(scope, object) {
-        if let Some(target) = needed_target(scope, object, place) {
-            add(scope, list, target);
+    // Puts the needed targets of an object behind the others, without those that are loaded or listed.
+    fn add_needed(&mut self, object: u16)
+        ensures scope { self.new.scope.now ≡ self.old.scope.now }
+        ensures list { self.new.list.items ≡ grow (S.Scope.order self.old.scope.now) self.old.list.items (targets (S.Scope.objects self.old.scope.now) object) }
+    {
+        for entry in 0..head(self.scope, object).needed {
+            if let Some(target) = needed_target(self.scope, object, entry) {
+                self.add(target);
+            }
         }
     }
 }
 
-// The objects that a link or an open starts from, and then needed targets in turn, without those that are loaded.
-pub fn new_list<S: Scope>(scope: &S, from: &[u16]) -> ObjectList
-    requires lawful { S.Scope.lawful scope.now }
-    requires known { Below (length (S.Scope.objects scope.now)) from.now }
-    ensures list { listed result ≡ new_list (S.Scope.objects scope.now) (S.Scope.order scope.now) from.now }
-    ensures lawful { LawfulOrder (S.Scope.objects scope.now) (listed result) }
-    ensures apart { (x : ℕ) → In x (listed result) → In x (S.Scope.order scope.now) → ⊥ }
+// The objects that a link starts from, and then needed targets in turn, without those that are loaded.
+pub fn new_list<S: Scope>(scope: &S, from: &[u16]) -> Objects
+    requires { Below (length (S.Scope.objects scope.now)) from.now }
+    ensures list { result.items ≡ new_list (S.Scope.objects scope.now) (S.Scope.order scope.now) from.now }
+    ensures lawful { LawfulOrder (S.Scope.objects scope.now) result.items }
+    ensures apart { Apart result.items (S.Scope.order scope.now) }
 {
-    let mut list = ObjectList::new();
-    add_all(scope, &mut list, from);
-    let mut place = 0;
-    while place < list.len() {
-        let object = list.at(place);
-        add_needed(scope, &mut list, object);
-        place += 1;
+    let mut new = NewList {
+        scope,
+        list: Objects::new(),
+    };
+    for object in from {
+        new.add(*object);
     }
-    list
+    // The list grows as it is walked, to at most all objects of the catalogue.
+    for place in 0..scope.catalogue().count() {
+        if let Some(&object) = new.list.get(place) {
+            new.add_needed(object);
+        }
+    }
+    new.list
 }

@@ -1,29 +1,45 @@
-use Rattle.std.proofs.Common.{ap, ◌∙◌}
-use Rattle.std.specs.Option.{option_map}
-use Rattle.elf.specs.Stored.{reference_of}
-use Rattle.elf.specs.Names.{names_of}
-use Rattle.bookline.proofs.RowsRead.{ref_no_flags, ref_no_symbol, ref_no_version, ref_made, told_five}
+use Rattle.std.proofs.Common.{◌≡◌, true, false, ◌&&◌, codes, refl, arith}
+use Rattle.std.specs.Str.{bytes_eq}
+use Rattle.elf.specs.Names.{lawful}
+use Rattle.bookline.proofs.RowsRead.{stored, none_both, ref_told}
 use Rattle.bookline.proofs.rows.ref_row.Goals as goal
 
-pub returns-in_err-number : goal.returns-in_err-number
-returns-in_err-number c =
-    ap (option_map reference_of) c.from_residual.ensures
-    ∙ ref_no_symbol (names_of c.args.fields.now) _ _ (told_five c.args.fields.now)
-    c.count_if.ensures c.in_err-number.ensures
+pub returns-then-ne : goal.returns-then-ne
+returns-then-ne c =
+    let t : (bytes_eq (stored c.args.fields.now 0) (codes "ref") && lawful (stored c.args.fields.now 2)) ≡ false =
+    grind arith in
+    rw (ref_told c.args.fields.now (omega arith), t) refl
+
+pub returns-in_err-symbol : goal.returns-in_err-symbol
+returns-in_err-symbol c =
+    rw (c.from_residual.ensures, ref_told c.args.fields.now (omega arith), ← c.in_err-symbol.ensures) (none_both _)
 
 pub returns-in_err-flags : goal.returns-in_err-flags
 returns-in_err-flags c =
-    ap (option_map reference_of) c.from_residual-in_err-flags.ensures
-    ∙ ref_no_flags (names_of c.args.fields.now) c.in_err-flags.ensures
+    rw (
+      c.from_residual-in_err-flags.ensures,
+      ref_told c.args.fields.now (omega arith),
+      ← c.in_ok-symbol.ensures,
+      ← c.in_err-flags.ensures,
+    ) (none_both _)
 
 pub returns-in_err-version : goal.returns-in_err-version
 returns-in_err-version c =
-    ap (option_map reference_of) c.from_residual-in_err-version.ensures
-    ∙ ref_no_version (names_of c.args.fields.now) _ (told_five c.args.fields.now)
-    c.in_err-version.ensures
+    rw (
+      c.from_residual-in_err-version.ensures,
+      ref_told c.args.fields.now (omega arith),
+      ← c.in_ok-symbol.ensures,
+      ← c.in_ok-flags.ensures,
+      ← c.in_err-version.ensures,
+    ) (none_both _)
 
 pub returns : goal.returns
 returns c =
-    ref_made (names_of c.args.fields.now) _ c.in_ok-flags.flags _ _ _ _
-    (told_five c.args.fields.now) c.in_ok-flags.ensures c.count_if.ensures
-    c.in_ok-number.ensures c.in_ok-version.ensures
+    let t : (bytes_eq (stored c.args.fields.now 0) (codes "ref") && lawful (stored c.args.fields.now 2)) ≡ true = grind arith in
+    rw (
+      ref_told c.args.fields.now (omega arith),
+      ← c.in_ok-symbol.ensures,
+      ← c.in_ok-flags.ensures,
+      ← c.in_ok-version.ensures,
+      t,
+    ) cc

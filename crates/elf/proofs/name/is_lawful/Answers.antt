@@ -1,20 +1,11 @@
-use Rattle.std.proofs.Common.{◌&&◌, leb, arith}
-use Rattle.std.proofs.lemmas.List.{at_drop_more, at_drop_all}
+use Rattle.std.proofs.Common.{rules, tests, leb, ◌&&◌, arith}
 use Rattle.std.proofs.lemmas.Bool.Decides.{nat_tests}
-use Rattle.elf.specs.Names.{all}
+use Rattle.std.proofs.lemmas.Iterator.{YieldsList-from_slice}
+use Rattle.std.proofs.lemmas.Iterator.Search.{all_from_yields_List}
 use Rattle.elf.proofs.name.is_lawful.Goals as goal
 
-pub returns-then-byte-lt33 : goal.returns-then-byte-lt33
-returns-then-byte-lt33 c =
-    let e = at_drop_more (all (λ b. leb 0x21 b && leb b 0x7E)) c.args.name.now c.loop-byte.byte-index 0 c.loop-byte-test.true in
-    grind (arith, nat_tests, e, c.loop-byte.invariant)
-
-pub loop-byte-preserved : goal.loop-byte-preserved
-loop-byte-preserved c =
-    let e = at_drop_more (all (λ b. leb 0x21 b && leb b 0x7E)) c.args.name.now c.loop-byte.byte-index 0 c.loop-byte-test.true in
-    grind (arith, nat_tests, e, c.loop-byte.invariant)
-
-pub returns : goal.returns
-returns c =
-    let e = at_drop_all (all (λ b. leb 0x21 b && leb b 0x7E)) c.args.name.now c.loop-byte.byte-index c.loop-byte-test.false in
-    grind (arith, nat_tests, e, c.loop-byte.invariant)
+pub returns-then-matches : goal.returns-then-matches
+returns-then-matches c =
+    let e = all_from_yields_List (λ b. leb 0x21 b && leb b 0x7E) _ _ c.all.result c.all.ensures.ran
+    (YieldsList-from_slice c.args.name.now cc) (λ x r q k. search (rules, tests)) in
+    grind (arith, nat_tests, e, c.if-matches)

@@ -1,33 +1,26 @@
-use Rattle.std.proofs.Common.{arith}
-use Rattle.std.proofs.lemmas.List.{at_drop_all}
+use Rattle.std.proofs.Common.{rules, tests}
+use Rattle.std.proofs.lemmas.Iterator.{YieldsList-from_slice}
+use Rattle.std.proofs.lemmas.Iterator.Consumers.{YieldsList-from_filter}
 use Rattle.elf.specs.Offers.{visible}
-use Rattle.elf.specs.Picks.{counting}
-use Rattle.elf.proofs.Counting.{sole_after, sole_after_none, counting_next}
+use Rattle.elf.proofs.Counting.{counts, counting, sole_of_none, sole_of_one, sole_of_two}
 use Rattle.elf.proofs.offer.only_visible.Goals as goal
-use Rattle.elf.proofs.offer.only_visible.Goals.{then-equal+then-is_visible+else-is_some, else-equal, else-equal-via-then-equal+else-is_visible, else-equal-via-else-equal}
 
-pub returns-then-is_some : goal.returns-then-is_some
-returns-then-is_some c =
-    let e = counting_next visible c.args.definitions.now c.loop-definition.definition-index c.args.name.now
-    c.loop-definition-test.true in
-    grind (arith, e, c.loop-definition.invariant, c.if-is_some.ensures)
+pub returns-in_err-only : goal.returns-in_err-only
+returns-in_err-only c =
+    rw (c.from_residual.ensures, counting visible c.args.name.now c.args.definitions.now) (sole_of_none _ _ _ c.next.result c.next.ensures.steps
+    (YieldsList-from_filter _ (counts visible c.args.name.now) (YieldsList-from_slice c.args.definitions.now cc)
+    c.filter-found.ensures.closure (λ x r q k. search (rules, tests))) c.in_err-only.was)
 
-pub loop-definition-preserved : goal.loop-definition-preserved
-loop-definition-preserved c =
-    let e = counting_next visible c.args.definitions.now c.loop-definition.definition-index c.args.name.now
-    c.loop-definition-test.true in
-    elim c.if-equal.branch [
-      | then-equal+then-is_visible+else-is_some w ↦
-          grind (arith, e, c.loop-definition.invariant, w.found-is, w.if-is_some.ensures)
-      | else-equal w ↦
-          elim w.else-equal.branch [
-            | else-equal-via-then-equal+else-is_visible v ↦ grind (arith, e, c.loop-definition.invariant, w.found-is, v.if-is_visible.ensures)
-            | else-equal-via-else-equal v ↦ grind (arith, e, c.loop-definition.invariant, w.found-is, v.if-equal.ensures)
-          ]
-    ]
+pub returns-in-Some : goal.returns-in-Some
+returns-in-Some c =
+    rw (counting visible c.args.name.now c.args.definitions.now) (sole_of_two _ _ _ _ c.next.result c.next-2.result c.in_ok-only.only c.in-Some.field-0
+    c.next.ensures.steps c.next-2.ensures.steps
+    (YieldsList-from_filter _ (counts visible c.args.name.now) (YieldsList-from_slice c.args.definitions.now cc)
+    c.filter-found.ensures.closure (λ x r q k. search (rules, tests))) c.in_ok-only.was c.in-Some.is)
 
-pub returns : goal.returns
-returns c =
-    let e = at_drop_all (λ ds. sole_after c.loop-definition.found (counting visible ds c.args.name.now))
-    c.args.definitions.now c.loop-definition.definition-index c.loop-definition-test.false in
-    grind (arith, e, c.loop-definition.invariant, sole_after_none c.loop-definition.found)
+pub returns-in-None : goal.returns-in-None
+returns-in-None c =
+    rw (counting visible c.args.name.now c.args.definitions.now) (sole_of_one _ _ _ _ c.next.result c.next-2.result c.in_ok-only.only
+    c.next.ensures.steps c.next-2.ensures.steps
+    (YieldsList-from_filter _ (counts visible c.args.name.now) (YieldsList-from_slice c.args.definitions.now cc)
+    c.filter-found.ensures.closure (λ x r q k. search (rules, tests))) c.in_ok-only.was c.in-None.is)

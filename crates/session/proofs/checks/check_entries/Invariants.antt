@@ -6,7 +6,7 @@ use Rattle.session.proofs.Asked.{ask_entry}
 use Rattle.session.proofs.checks.check_entries.Given as goal
 
 -- the entries that are left give the answer
-abbrev pub invariant-loop-place : goal.invariant-loop-place
-invariant-loop-place g l =
+abbrev pub invariant-loop-entry : goal.invariant-loop-entry
+invariant-loop-entry g l =
     let os = g.S.Scope.objects l.scope in
-    first_from l.place (ask_entry os l.object) (drop l.place (object os l.object).needed) ≡ no_target os l.object
+    first_from l.entry (ask_entry os l.object) (drop l.entry (object os l.object).needed) ≡ no_target os l.object

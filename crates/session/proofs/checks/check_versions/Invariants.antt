@@ -6,9 +6,8 @@ use Rattle.session.proofs.Asked.{ask_need}
 use Rattle.session.proofs.checks.check_versions.Given as goal
 
 -- the needs that are left give the answer
-abbrev pub invariant-loop-place : goal.invariant-loop-place
-invariant-loop-place g l =
+abbrev pub invariant-loop-need : goal.invariant-loop-need
+invariant-loop-need g l =
     let os = g.S.Scope.objects l.scope in
     let order = g.S.Scope.order l.scope in
-    first_from l.place (ask_need os order l.object) (drop l.place (object os l.object).needs)
-    ≡ no_version os order l.object
+    first_from l.need (ask_need os order l.object) (drop l.need (object os l.object).needs) ≡ no_version os order l.object

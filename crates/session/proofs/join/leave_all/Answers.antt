@@ -1,28 +1,21 @@
-use Rattle.std.proofs.Common.{ℕ, ◌+◌, ◌<◌, not, List, length, drop, filter, ap, ◌∙◌, arith}
+use Rattle.std.proofs.Common.{ℕ, ◌+◌, not, List, drop, filter, ap, ◌∙◌}
 use Rattle.graph.specs.Graph.{among}
-use Rattle.scope.specs.Listed.{listed}
-use Rattle.scope.specs.Orders.{left}
 use Rattle.session.proofs.Joins.{leave_turn, leave_end}
 use Rattle.session.proofs.join.leave_all.Goals as goal
 
-pub loop-place-preserved : goal.loop-place-preserved
-loop-place-preserved g c =
-    let xs : List ℕ = listed c.args.list.now in
-    let order : List ℕ = g.S.Scope.order c.loop-place.scope in
-    let i : ℕ = c.loop-place.place in
-    let l : i < length xs = omega arith in (
-      c.leave.ensures.lawful,
-      c.leave.ensures.objects ∙ c.loop-place.invariant.1,
-      ap (filter (λ (o : ℕ). not (among o (drop (i + 1) xs)))) (c.leave.ensures.order ∙ ap (left order) c.at.ensures)
-          ∙ leave_turn order xs i l ∙ c.loop-place.invariant.2,
-    )
-
-pub returns : goal.returns
-returns g c =
+pub loop-object-preserved : goal.loop-object-preserved
+loop-object-preserved g c =
+    let xs : List ℕ = c.args.list.now in
+    let order : List ℕ = g.S.Scope.order c.loop-object.scope in
+    let i : ℕ = c.loop-object.object-index in
     record {
-      lawful = c.loop-place.invariant.0;
-      objects = c.loop-place.invariant.1;
+      objects = c.leave.ensures.objects ∙ c.loop-object.invariant.objects;
       order =
-          leave_end (g.S.Scope.order c.loop-place.scope) (listed c.args.list.now) c.loop-place.place (omega arith)
-          ∙ c.loop-place.invariant.2;
+          ap (filter (λ (o : ℕ). not (among o (drop (i + 1) xs)))) c.leave.ensures.order
+          ∙ leave_turn order xs i c.loop-object-test.true ∙ c.loop-object.invariant.order;
     }
+
+pub returns-clause-order : goal.returns-clause-order
+returns-clause-order g c =
+    leave_end (g.S.Scope.order c.loop-object.scope) c.args.list.now c.loop-object.object-index c.loop-object-test.false
+    ∙ c.loop-object.invariant.order

@@ -1,74 +1,67 @@
-use Rattle.std.proofs.Common.{◌≡◌, ℕ, ◌+◌, ◌-◌, ◌<◌, ◌≤◌, List, [], length, get_or, take, drop, sym, ap, ◌∙◌, subst, arith}
+use Rattle.std.proofs.Common.{◌≡◌, ℕ, ◌+◌, ◌-◌, ◌<◌, ◌≤◌, List, length, get_or, take, drop, sym, ap, ◌∙◌, subst, arith}
 use Rattle.graph.specs.Graph.{In, grow, walk}
+use Rattle.graph.proofs.Room.{distinct_length}
 use Rattle.graph.proofs.Spread.{spreads}
-use Rattle.graph.proofs.Loops.{walk_all, turn_place, turn_list}
+use Rattle.graph.proofs.Loops.{In-get_or, walk_all, turn_list}
 use Rattle.elf.specs.Meaning.{Object, targets}
-use Rattle.scope.specs.Listed.{listed}
-use Rattle.scope.proofs.Changes.{lawful_none}
+use Rattle.scope.specs.Orders.{LawfulOrder}
 use Rattle.session.specs.Walks.{new_list}
 use Rattle.session.proofs.Targets.{targets_bounded}
 use Rattle.session.proofs.walk.new_list.Goals as goal
+use Rattle.session.proofs.walk.new_list.Goals.{in-Some, in_default}
 
-pub add_all-requires : goal.add_all-requires
-add_all-requires g c =
-    let os : List Object = g.S.Scope.objects c.args.scope.now in
-    record {
-      lawful = c.requires.lawful;
-      listed = lawful_none os _ c.new-list.ensures;
-      known = c.requires.known;
-    }
-
-pub loop-place-init : goal.loop-place-init
-loop-place-init g c =
-    let os : List Object = g.S.Scope.objects c.args.scope.now in
-    let old : List ℕ = g.S.Scope.order c.args.scope.now in
+pub add-requires : goal.add-requires
+add-requires g c =
     let from : List ℕ = c.args.from.now in
-    let n : length os - 0 ≡ length os = omega arith in
-    let begun : listed c.add_all.new.list ≡ grow old [] from =
-    c.add_all.ensures.list ∙ ap (λ (l : List ℕ). grow old l from) c.new-list.ensures in (
-      ap (λ (k : ℕ). walk (targets os) old k [] (listed c.add_all.new.list)) n
-          ∙ ap (walk (targets os) old (length os) []) begun,
-      c.add_all.ensures.lawful,
-    )
-
-pub loop-place-smaller : goal.loop-place-smaller
-loop-place-smaller g c =
-    let os : List Object = g.S.Scope.objects c.args.scope.now in
-    let xs : List ℕ = listed c.loop-place.list in
-    let i : ℕ = c.loop-place.place in
-    let l : i < length xs = omega arith in
-    let p : i < length os =
-    turn_place (targets os) (g.S.Scope.order c.args.scope.now) c.args.from.now (length os) (targets_bounded os)
-    c.requires.known xs i c.loop-place.invariant.0 l in
-    omega arith
+    let i : ℕ = c.loop-object.object-index in
+    rw c.loop-object.invariant.scope (c.requires (get_or from i 0) (In-get_or from i c.loop-object-test.true))
 
 pub loop-place-preserved : goal.loop-place-preserved
 loop-place-preserved g c =
+    let same = c.loop-place.invariant.scope in
     let os : List Object = g.S.Scope.objects c.args.scope.now in
     let old : List ℕ = g.S.Scope.order c.args.scope.now in
-    let xs : List ℕ = listed c.loop-place.list in
+    let xs : List ℕ = c.loop-place.new.list.items in
     let i : ℕ = c.loop-place.place in
-    let l : i < length xs = omega arith in
-    let grown : listed c.add_needed.new.list ≡ grow old xs (targets os (get_or xs i 0)) =
-    c.add_needed.ensures.list ∙ ap (λ (o : ℕ). grow old xs (targets os o)) c.at-object.ensures in (
-      ap (λ (z : List ℕ). walk (targets os) old (length os - (i + 1)) (take (i + 1) z) (drop (i + 1) z)) grown
-          ∙ turn_list (targets os) old c.args.from.now (length os) (targets_bounded os) c.requires.known xs i
-          c.loop-place.invariant.0 l,
-      c.add_needed.ensures.lawful,
-    )
+    let n : ℕ = length os in
+    elim c.match-get.branch [
+      | in-Some w ↦
+          let o : ℕ = w.in-Some.field-0.now in
+          let l : i < length xs = grind (arith, w.in-Some.ensures.lookup) in
+          let here : o ≡ get_or xs i 0 = grind (arith, w.in-Some.ensures.lookup) in
+          let grown : w.add_needed.new.self.list.items ≡ grow old xs (targets os (get_or xs i 0)) =
+          w.add_needed.ensures.list
+          ∙ ap (λ s. grow (g.S.Scope.order s) xs (targets (g.S.Scope.objects s) o)) same
+          ∙ ap (λ (o : ℕ). grow old xs (targets os o)) here in
+          rw w.new-is (record {
+            scope = w.add_needed.ensures.scope ∙ same;
+            list =
+                ap (λ (z : List ℕ). walk (targets os) old (n - (i + 1)) (take (i + 1) z) (drop (i + 1) z)) grown
+                ∙ turn_list (targets os) old c.args.from.now n (targets_bounded os) c.requires xs i c.loop-place.invariant.list l;
+          })
+      | in_default w ↦
+          let l : length xs ≤ i = grind (arith, w.in_default.ensures.lookup) in
+          rw w.new-is (record {
+            scope = same;
+            list =
+                walk_all (targets os) old xs (n - (i + 1)) (i + 1) (omega arith)
+                ∙ sym (walk_all (targets os) old xs (n - i) i l) ∙ c.loop-place.invariant.list;
+          })
+    ]
 
 pub returns : goal.returns
 returns g c =
     let os : List Object = g.S.Scope.objects c.args.scope.now in
     let old : List ℕ = g.S.Scope.order c.args.scope.now in
     let from : List ℕ = c.args.from.now in
-    let xs : List ℕ = listed c.loop-place.list in
+    let xs : List ℕ = c.loop-place.new.list.items in
     let i : ℕ = c.loop-place.place in
-    let l : length xs ≤ i = omega arith in
-    let whole : xs ≡ new_list os old from = sym (walk_all (targets os) old xs (length os - i) i l) ∙ c.loop-place.invariant.0 in
+    let lawful = subst (λ s. LawfulOrder (g.S.Scope.objects s) xs) c.loop-place.invariant.scope c.loop-place.new.lawful in
+    let few : length xs ≤ length os = distinct_length (length os) xs lawful.once lawful.known in
+    let count : c.count-place-end.result ≡ length os = c.count-place-end.ensures ∙ ap length c.catalogue.ensures in
+    let whole : xs ≡ new_list os old from = sym (walk_all (targets os) old xs (length os - i) i (omega arith)) ∙ c.loop-place.invariant.list in
     record {
       list = whole;
-      lawful = c.loop-place.invariant.1;
-      apart = λ x m.
-          (spreads (targets os) old from (length os) (targets_bounded os) c.requires.known).apart x (subst (In x) whole m);
+      lawful = lawful;
+      apart = λ x m. (spreads (targets os) old from (length os) (targets_bounded os) c.requires).apart x (subst (In x) whole m);
     }

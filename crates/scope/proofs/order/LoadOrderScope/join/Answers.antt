@@ -1,19 +1,18 @@
-use Rattle.std.proofs.Common.{sym, refl, arith}
-use Rattle.std.proofs.lemmas.Bool.Decides.{nat_tests}
-use Rattle.scope.specs.Listed.{listed}
-use Rattle.scope.proofs.Changes.{room_left, lawful_push}
+use Rattle.std.proofs.Common.{rules, arith}
+use Rattle.scope.proofs.Changes.{room_left, lawful_push, in_catalogue}
 use Rattle.scope.proofs.order.LoadOrderScope.join.Goals as goal
 
 pub push-requires : goal.push-requires
-push-requires g c =
-    room_left (g.C.Catalogue.meaning c.args.self.now.catalogue) (listed c.args.self.now.objects) c.args.object
-    (g.C.Catalogue.kept c.args.self.now.catalogue) c.requires (omega arith) (sym c.if-has.ensures)
+push-requires g c = (
+  omega arith,
+  room_left (g.C.Catalogue.meaning c.args.self.now.catalogue) c.args.self.now.objects.items c.args.object
+      (g.C.Catalogue.kept c.args.self.now.catalogue) c.args.self.now.lawful (in_catalogue _ c.args.object c.in_ok-check_known.field-0 c.in_ok-check_known.ensures) (search (rules, c.if-contains.ensures.value)),
+)
 
-pub returns : goal.returns
-returns g c =
+pub invariant_of-self : goal.invariant_of-self
+invariant_of-self g c =
     record {
-      lawful = lawful_push _ _ _ c.args.object c.requires (omega arith) (sym c.if-has.ensures) c.push.ensures;
-      objects = refl;
-      answer = grind (arith, nat_tests, c.if-has.ensures);
-      order = grind (arith, nat_tests, c.if-has.ensures, c.push.ensures);
+      lawful =
+          lawful_push _ _ _ c.args.object c.args.self.now.lawful (in_catalogue _ c.args.object c.in_ok-check_known.field-0 c.in_ok-check_known.ensures) (search (rules, c.if-contains.ensures.value))
+          c.push.ensures.items;
     }

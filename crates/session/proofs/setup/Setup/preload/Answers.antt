@@ -1,29 +1,36 @@
-use Rattle.std.proofs.Common.{◌≡◌, ℕ, ◌<◌, ◌≤◌, false, List, [], ◌∷◌, ◌++◌, length, sym, ap, ◌∙◌, subst, arith, length-append, rules}
+use Rattle.std.proofs.Common.{◌≡◌, ℕ, ◌<◌, false, List, [], ◌∷◌, ◌++◌, length, Ok, Err, OnOk, OnErr, Result, sym, ap, ◌∙◌, subst}
+use Rattle.arrayvec.specs.ArrayVec.{ArrayVec}
 use Rattle.graph.specs.Graph.{among}
 use Rattle.elf.specs.Meaning.{Object}
-use Rattle.scope.specs.Listed.{listed}
-use Rattle.scope.proofs.Changes.{lawful_push}
+use Rattle.elf.specs.Refusals.{answer}
+use Rattle.scope.specs.Orders.{LawfulOrder, unknown}
+use Rattle.scope.proofs.Changes.{lawful_push, in_catalogue}
 use Rattle.session.proofs.setup.Setup.preload.Goals as goal
 
-pub returns : goal.returns
-returns g c =
-    let os : List Object = g.S.Scope.objects c.args.self.now.scope in
-    let before : List ℕ = listed c.args.self.now.tables.preloads in
-    let here : c.args.object < length os =
-    let e = ap length c.catalogue.ensures in omega (arith, e, c.count.ensures, c.if-known-count.false) in
-    let new : among c.args.object before ≡ false = sym c.has.ensures ∙ c.if-has.false in
-    let few : length (before ++ (c.args.object ∷ [])) ≤ 4 =
-    simp length-append (omega (arith, c.len.ensures.0, c.if-len-ge4.false)) in
-    record {
-      scope = search rules;
-      answer = search rules;
-      next = search rules;
-      setup = record {
-        root = c.requires.root;
-        loaded = c.requires.loaded;
-        started = c.requires.started;
-        used = c.requires.used;
-        preloads = lawful_push os before _ c.args.object c.requires.preloads here new c.push.ensures;
-        few = subst (λ xs. length xs ≤ 4) (sym c.push.ensures) few;
-      };
-    }
+-- an object was put behind a list, or there was no room for it
+tried :
+    {E : Type 0} (c : List Object) (before after : ArrayVec ℕ) (o : ℕ) (r : Result (Unit {0}) E) →
+    LawfulOrder c before.items → o < length c → among o before.items ≡ false →
+    OnOk r (after.items ≡ before.items ++ o ∷ []) → OnErr r (after ≡ before) → LawfulOrder c after.items
+tried c before after o (Ok u) h l n ok err = lawful_push c before.items after.items o h l n ok
+tried c before after o (Err e) h l n ok err = subst (λ (v : ArrayVec ℕ). LawfulOrder c v.items) (sym err) h
+
+pub invariant_of-self : goal.invariant_of-self
+invariant_of-self g c =
+    let os : List Object = g.S.Scope.objects c.self.inside.scope in
+    let before : ArrayVec ℕ = c.self.inside.tables.preloads in
+    let new : among c.args.object before.items ≡ false = cc in
+    tried os before c.try_push.new.self c.args.object c.try_push.result c.self.invariant
+    (in_catalogue os c.args.object c.in_ok-check_known.field-0
+    (c.in_ok-check_known.ensures ∙ ap (λ (cs : List Object). answer {A = Unit {0}} (unknown cs c.args.object) tt) c.catalogue.ensures)) new
+    c.try_push.ensures.ok c.try_push.ensures.err
+
+pub returns-clause-preloads : goal.returns-clause-preloads
+returns-clause-preloads g c =
+    let os : List Object = g.S.Scope.objects c.self.inside.scope in
+    let before : ArrayVec ℕ = c.self.inside.tables.preloads in
+    let new : among c.args.object before.items ≡ false = cc in
+    tried os before c.try_push.new.self c.args.object c.try_push.result c.self.invariant
+    (in_catalogue os c.args.object c.in_ok-check_known.field-0
+    (c.in_ok-check_known.ensures ∙ ap (λ (cs : List Object). answer {A = Unit {0}} (unknown cs c.args.object) tt) c.catalogue.ensures)) new
+    c.try_push.ensures.ok c.try_push.ensures.err
