@@ -13,7 +13,7 @@ lines_cons [] q ps = refl
 lines_cons (b ∷ bs) q ps = refl
 
 -- There are no more lines than parts.
-lines_most : (ps : List Name) → length (lines_of ps) ≤ length ps
+pub lines_most : (ps : List Name) → length (lines_of ps) ≤ length ps
 lines_most [] = omega arith
 lines_most ([] ∷ []) = omega arith
 lines_most ((b ∷ bs) ∷ []) = omega arith

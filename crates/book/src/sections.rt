@@ -8,7 +8,7 @@ ghost use Rattle.format.specs.Lines.{name_row, want_row, version_row, new_index,
 ghost use Rattle.bookline.specs.Rows.{version_of};
 
 use super::rule::Rule;
-use bookline::fits::{def_fits, new_index, ref_fits};
+use bookline::fits::{def_fits, ref_fits, version_fits};
 use bookline::rows::{def_row, name_row, ref_row, version_row, want_row};
 use elf::symbol::{Definition, Reference, VersionNeed};
 
@@ -88,7 +88,7 @@ impl<'a> Rule<'a> for Versions {
     }
 
     fn fits(&self, before: &[(&'a [u8], u16)], row: &(&'a [u8], u16)) -> bool {
-        new_index(before, row)
+        version_fits(before, row)
     }
 }
 

@@ -12,7 +12,7 @@ use Rattle.format.specs.Lines.{last}
 use Rattle.bookline.specs.Rows.{version_of}
 
 -- The last number is that of the last line.
-last_found :
+pub last_found :
     {X Y : Type 0} (meaning : X → Y) (number : Y → ℕ) (xs : List X) (x : X) → 0 < length xs
     → x ≡ get_or xs (length xs - 1) x → number (meaning x) ≡ last (map number (map meaning xs))
 last_found meaning number [] x n e = absurd (omega arith)

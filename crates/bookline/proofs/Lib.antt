@@ -1,4 +1,5 @@
 -- Lemmas of this crate.
+pub mod Splits
 pub mod Numbers
 pub mod FitsBehind
 pub mod RowsRead

@@ -1,2 +1,2 @@
--- What the lines about symbols share.
+-- What the code holds of a line, seen as the format's definitions see it.
 pub mod Rows

@@ -1,6 +1,7 @@
 // How a line fits behind the lines before it in its object.
 ghost use Rattle.std.specs.Prelude.{◌≡◌, not, map};
 ghost use Rattle.std.specs.Option.{option_map};
+ghost use Rattle.graph.specs.Graph.{among};
 ghost use Rattle.elf.specs.Names.{bytes_of};
 ghost use Rattle.elf.specs.Meaning.{numbered as numbered_of};
 ghost use Rattle.elf.specs.Stored.{definition_of, reference_of};
@@ -10,8 +11,20 @@ ghost use Rattle.bookline.specs.Rows.{version_of};
 
 use elf::symbol::{Definition, Reference};
 
+// Whether an index stands in no earlier `version` line.
+pub fn new_index(before: &[u16], index: u16) -> bool
+    ensures { result ≡ not (among index before.now) }
+{
+    for earlier in before {
+        if index == *earlier {
+            return false;
+        }
+    }
+    true
+}
+
 // Whether a version's index stands in no earlier `version` line.
-pub fn new_index(before: &[(&[u8], u16)], row: &(&[u8], u16)) -> bool
+pub fn version_fits(before: &[(&[u8], u16)], row: &(&[u8], u16)) -> bool
     ensures { result ≡ new_index (map version_of before.now) (version_of row.now) }
 {
     !before.iter().any(|earlier| earlier.1 == row.1)

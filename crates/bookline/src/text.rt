@@ -9,7 +9,16 @@ use std::alloc::{AllocError, Global};
 pub fn split<'a>(alloc: Global, text: &'a [u8], mark: u8) -> Result<Vec<&'a [u8]>, AllocError>
     ensures { IfOk result (λ v. names_of v.items ≡ split_of mark text.now) }
 {
-    text.split(|byte| *byte == mark).collect(alloc)
+    let mut parts = Vec::new(alloc);
+    let mut start: usize = 0;
+    for (i, byte) in text.iter().enumerate() {
+        if *byte == mark {
+            parts.push(&text[start..i])?;
+            start = i + 1;
+        }
+    }
+    parts.push(&text[start..])?;
+    Ok(parts)
 }
 
 // The value of a decimal number without spare zeros, if it is at most `most`.

@@ -1,13 +1,20 @@
-use Rattle.std.proofs.Common.{not, eqb, rules, ap, ◌∙◌}
-use borrow.Author.Tests.{tests}
-use Rattle.std.proofs.lemmas.Iterator.{YieldsList-from_slice}
-use Rattle.std.proofs.lemmas.Iterator.Search.{any_from_yields_List}
-use Rattle.bookline.proofs.FitsBehind.{any_is_among}
+use Rattle.std.proofs.Common.{arith}
+use Rattle.std.proofs.lemmas.List.{at_drop_more, at_drop_all}
+use Rattle.std.proofs.lemmas.Bool.Decides.{nat_tests}
+use Rattle.graph.specs.Graph.{among}
 use Rattle.bookline.proofs.fits.new_index.Goals as goal
+
+pub returns-then-index-earlier : goal.returns-then-index-earlier
+returns-then-index-earlier c =
+    let e = at_drop_more (among c.args.index) _ _ 0 c.loop-earlier-test.true in
+    grind (arith, nat_tests, e, c.loop-earlier.invariant)
+
+pub loop-earlier-preserved : goal.loop-earlier-preserved
+loop-earlier-preserved c =
+    let e = at_drop_more (among c.args.index) _ _ 0 c.loop-earlier-test.true in
+    grind (arith, nat_tests, e, c.loop-earlier.invariant)
 
 pub returns : goal.returns
 returns c =
-    ap not
-    (any_from_yields_List (λ v. eqb v.1 c.args.row.now.1) _ _ _ c.any.ensures.ran
-    (YieldsList-from_slice c.args.before.now c.iter.ensures.rest) (λ x b q k. search (rules, tests))
-    ∙ any_is_among c.args.before.now c.args.row.now.1)
+    let e = at_drop_all (among c.args.index) _ _ c.loop-earlier-test.false in
+    grind (arith, nat_tests, e, c.loop-earlier.invariant)
