@@ -1,5 +1,5 @@
 // The plain load order: objects of a catalogue in the order in which they joined.
-ghost use Rattle.std.specs.Prelude.{◌≡◌, []};
+ghost use Rattle.std.specs.Prelude.{◌≡◌, ◌<◌, [], ◌∷◌, ◌++◌, length};
 ghost use Rattle.scope.specs.Orders.{LawfulOrder};
 ghost use Rattle.scope.specs.OrderProp.{lawful_order_prop};
 
@@ -16,6 +16,14 @@ pub struct LoadOrder<C: Catalogue> {
     catalogue: C,
     objects: ArrayVec<u16, 64>,
     ghost lawful: { LawfulOrder (C.Catalogue.meaning catalogue) objects.items } by { lawful_order_prop (C.Catalogue.meaning catalogue) objects.items },
+}
+
+// Puts an object behind the others of a list that has room.
+fn append(objects: &mut ArrayVec<u16, 64>, object: u16)
+    requires { length objects.old.items < 64 }
+    ensures { objects.new.items ≡ objects.old.items ++ (object ∷ []) }
+{
+    objects.push(object);
 }
 
 impl<C: Catalogue> LoadOrder<C> {
@@ -66,7 +74,7 @@ impl<C: Catalogue> Scope for LoadOrder<C> {
                 object: usize::from(object),
             });
         }
-        self.objects.push(object);
+        append(&mut self.objects, object);
         Ok(())
     }
 
