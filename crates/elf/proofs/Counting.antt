@@ -1,15 +1,17 @@
 -- The definitions of a name that pass a test, as a search or a filter over the stored ones finds them.
-use Rattle.std.proofs.Common.{◌≡◌, Bool, ◌&&◌, List, [], ◌∷◌, map, Some, None, filter, Option, refl, ap, subst, sym, ◌∙◌, arith}
+use Rattle.std.proofs.Common.{◌≡◌, ℕ, ◌+◌, Bool, true, false, ltb, ◌&&◌, List, [], ◌∷◌, map, length, get_or, drop, Some, None, filter, Option, refl, ap, sym, ◌∙◌, arith}
 use Rattle.std.specs.Iterator.{AlwaysYields}
-use Rattle.std.specs.List.{find}
+use Rattle.std.specs.List.{find, list_any, position_or_len}
 use Rattle.std.specs.Option.{option_map}
 use Rattle.std.specs.Str.{bytes_eq}
+use Rattle.std.proofs.lemmas.Bool.Decides.{nat_tests}
 use Rattle.std.proofs.lemmas.Iterator.{YieldsList}
 use Rattle.elf.specs.declared.symbol.Definition.{Definition as StoredDefinition}
-use Rattle.elf.specs.Names.{Name}
+use Rattle.elf.specs.Names.{Name, only_if}
 use Rattle.elf.specs.Meaning.{Definition}
 use Rattle.elf.specs.Offers.{definitions_of, lowest, sole}
 use Rattle.elf.specs.Stored.{definition_of}
+use Rattle.elf.proofs.Choices.{only_if_some, only_if_none}
 
 -- the stored definitions of a name
 abbrev pub named : Name → List StoredDefinition → List StoredDefinition
@@ -58,29 +60,58 @@ pub counting :
 counting p n [] = refl
 counting p n (d ∷ ds) = grind (arith, counting p n ds)
 
--- Two calls of an iterator show whether it gives just one: the first gives it, and the second none.
-module _ {S A : Type 0} {steps : S → Option A → S → Type 0} {v : A → StoredDefinition} (s t : S) (all : List StoredDefinition) where
-  pub sole_of_none :
-      (r : Option A) → steps s r t → YieldsList steps v s all → r ≡ None → None ≡ sole (map definition_of all)
-  sole_of_none r f y e = none all (subst (λ (r : Option A). steps s r t) e f) y.runs where
-    none : (all : List StoredDefinition) → steps s None t → AlwaysYields steps v s all → None ≡ sole (map definition_of all)
-    none [] f a = refl
-    none (d ∷ ds) f a = absurd (a.0 t f)
+-- what is read past the end
+abbrev pub no_definition : StoredDefinition
+no_definition =
+    record {
+      number = 0;
+      name = record { ref_ptr = (0, 0); now = [] };
+      index = 0;
+      hidden = false;
+      weak = false;
+      protected = false;
+      version = None;
+    }
 
-  pub sole_of_one :
-      (u : S) (r two : Option A) (x : A) → steps s r t → steps t two u → YieldsList steps v s all → r ≡ Some x →
-      two ≡ None → Some (v x).number ≡ sole (map definition_of all)
-  sole_of_one u r two x f g y e h = one all (subst (λ (r : Option A). steps s r t) e f) (subst (λ (r : Option A). steps t r u) h g) y.runs where
-    one : (all : List StoredDefinition) → steps s (Some x) t → steps t None u → AlwaysYields steps v s all → Some (v x).number ≡ sole (map definition_of all)
-    one [] f g a = absurd (a x t f)
-    one (d ∷ []) f g a = ap (λ e. Some e.number) (a.1 x t f).0
-    one (d ∷ (e ∷ ds)) f g a = absurd ((a.1 x t f).1.0 u g)
+-- The place of the first that passes, and whether a later one does, show whether it is the only one.
+module _ (p : StoredDefinition → Bool) where
+  none_passes : (ds : List StoredDefinition) → ltb (position_or_len p ds) (length ds) ≡ false → filter p ds ≡ []
+  none_passes [] e = refl
+  none_passes (d ∷ ds) e = let h = none_passes ds in grind (arith, nat_tests, h)
 
-  pub sole_of_two :
-      (u : S) (r two : Option A) (x z : A) → steps s r t → steps t two u → YieldsList steps v s all → r ≡ Some x →
-      two ≡ Some z → None ≡ sole (map definition_of all)
-  sole_of_two u r two x z f g y e h = more all (subst (λ (r : Option A). steps s r t) e f) (subst (λ (r : Option A). steps t r u) h g) y.runs where
-    more : (all : List StoredDefinition) → steps s (Some x) t → steps t (Some z) u → AlwaysYields steps v s all → None ≡ sole (map definition_of all)
-    more [] f g a = refl
-    more (d ∷ []) f g a = absurd ((a.1 x t f).1 z u g)
-    more (d ∷ (e ∷ ds)) f g a = refl
+  first_passes :
+      (ds : List StoredDefinition) (z : StoredDefinition) → ltb (position_or_len p ds) (length ds) ≡ true →
+      filter p ds ≡ get_or ds (position_or_len p ds) z ∷ filter p (drop (position_or_len p ds + 1) ds)
+  first_passes [] z e = grind (arith, nat_tests)
+  first_passes (d ∷ ds) z e = let h = first_passes ds z in grind (arith, nat_tests, h)
+
+  none_later : (ds : List StoredDefinition) → list_any p ds ≡ false → filter p ds ≡ []
+  none_later [] e = refl
+  none_later (d ∷ ds) e = let h = none_later ds in grind (arith, h)
+
+  several_later : (x : StoredDefinition) (ds : List StoredDefinition) → list_any p ds ≡ true → None ≡ sole (map definition_of (x ∷ filter p ds))
+  several_later x [] e = grind arith
+  several_later x (d ∷ ds) e = let h = several_later x ds in grind (arith, h)
+
+  -- the place of the first that passes, as the library finds it
+  abbrev pub placed : List StoredDefinition → Option ℕ
+  placed ds = only_if (ltb (position_or_len p ds) (length ds)) (position_or_len p ds)
+
+  pub sole_of_none : (ds : List StoredDefinition) → None ≡ placed ds → None ≡ sole (map definition_of (filter p ds))
+  sole_of_none ds e = ap (λ xs. sole (map definition_of xs)) (sym (none_passes ds (only_if_none _ _ (sym e))))
+
+  module _ (ds later : List StoredDefinition) (k : ℕ) (z : StoredDefinition) (e : Some k ≡ placed ds) (rest : later ≡ drop (k + 1) ds) where
+    split_there : filter p ds ≡ get_or ds k z ∷ filter p later
+    split_there =
+        let found = only_if_some _ _ _ (sym e) in
+        first_passes ds z found.0
+        ∙ ap (λ i. get_or ds i z ∷ filter p (drop (i + 1) ds)) found.1
+        ∙ ap (λ xs. get_or ds k z ∷ filter p xs) (sym rest)
+
+    pub sole_of_several : list_any p later ≡ true → None ≡ sole (map definition_of (filter p ds))
+    sole_of_several l = several_later (get_or ds k z) later l ∙ ap (λ xs. sole (map definition_of xs)) (sym split_there)
+
+    pub sole_of_one : list_any p later ≡ false → Some (get_or ds k z).number ≡ sole (map definition_of (filter p ds))
+    sole_of_one l =
+        ap (λ xs. sole (map definition_of (get_or ds k z ∷ xs))) (sym (none_later later l))
+        ∙ ap (λ xs. sole (map definition_of xs)) (sym split_there)

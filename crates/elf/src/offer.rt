@@ -33,13 +33,14 @@ impl Definition<'_> {
 fn only_visible(definitions: &[Definition], name: &[u8]) -> Option<u16>
     ensures { result ≡ sole (filter visible (definitions_of (map definition_of definitions.now) name.now)) }
 {
-    let mut found = definitions.iter().filter(|definition| definition.name == name
+    let first = definitions.iter().position(|definition| definition.name == name
+        && definition.is_visible())?;
+    let several = definitions[first + 1..].iter().any(|definition| definition.name == name
         && definition.is_visible());
-    let only = found.next()?;
-    match found.next() {
-        Some(_) => None,
-        None => Some(only.number),
+    if several {
+        return None;
     }
+    Some(definitions[first].number)
 }
 
 // The symbol number that an object offers; its definitions stand by rising number. Without symbol versions the
