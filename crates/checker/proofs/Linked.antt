@@ -1,11 +1,21 @@
--- From a session's link to a catalogue's report.
-use Rattle.std.proofs.Common.{◌≡◌, ℕ, List, Ok, Err, sym, ap, ◌∙◌, ap₂}
+-- From a book's objects to its report.
+use Rattle.std.proofs.Common.{◌≡◌, ℕ, ◌≤◌, false, cond, ltb, List, length, Ok, Err, sym, ap, ◌∙◌, ap₂, arith}
+use Rattle.std.proofs.lemmas.Bool.Decides.{nat_tests}
 use Rattle.elf.specs.declared.refusal.Refusal.{Refusal}
+use Rattle.elf.specs.declared.refusal.Refusal.TheVariants.{BookTooLong}
 use Rattle.elf.specs.Meaning.{Object}
+use Rattle.format.specs.Book.{read_book}
 use Rattle.session.specs.State.{State, initial}
 use Rattle.session.specs.Calls.{Outcome, link}
 use Rattle.session.specs.Lines.{lines}
-use Rattle.checker.specs.Linkbook.{report, report_of, told}
+use Rattle.checker.specs.Linkbook.{report, report_of, reported, book_report, told}
+
+-- a book that is not too long is read as any book
+module _ (text : List ℕ) (short : length text ≤ 65536) (c : List Object) (means : read_book text ≡ Ok c) where
+  pub reads : book_report text ≡ report_of c
+  reads =
+      let e : ltb 65536 (length text) ≡ false = grind (arith, nat_tests) in
+      ap (λ b. reported (cond b (Err BookTooLong) (read_book text))) e ∙ ap reported means
 
 -- a session over the same objects links as a new one does
 module _ (c held : List Object) (before : State) (same : held ≡ c) (new : before ≡ initial c) where

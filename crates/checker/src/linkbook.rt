@@ -2,7 +2,7 @@
 ghost use Rattle.std.specs.Prelude.{◌≡◌, IfOk, Ok, vec_items};
 ghost use Rattle.catalogue.specs.Reading.{Reads};
 ghost use Rattle.session.specs.Lines.{lines};
-ghost use Rattle.checker.specs.Linkbook.{linkbook as linkbook_of, book_report, report, report_of as catalogue_report};
+ghost use Rattle.checker.specs.Linkbook.{linkbook as linkbook_of, book_report, report};
 
 use book::whole::Book;
 use catalogue::fault::Fault;
@@ -30,16 +30,7 @@ fn report<S: Scope>(alloc: Global, session: &Linked<S>) -> Result<Vec<u8>, Fault
     Ok(text)
 }
 
-// The report of a scope's catalogue, linked at object 0.
-fn linked_report<S: Scope + Drop>(alloc: Global, scope: S) -> Result<Vec<u8>, Fault>
-    ensures { Reads vec_items result (catalogue_report (S.Scope.objects scope)) }
-{
-    let mut setup = Setup::new(scope);
-    setup.try_link(0)?;
-    report(alloc, &setup.link())
-}
-
-// The report of a book, or its refusal.
+// The report of a book linked at object 0, or the refusal.
 fn report_book(alloc: Global, text: &[u8]) -> Result<Vec<u8>, Fault>
     ensures { Reads vec_items result (book_report text.now) }
 {
@@ -47,7 +38,9 @@ fn report_book(alloc: Global, text: &[u8]) -> Result<Vec<u8>, Fault>
         return Err(Refusal::BookTooLong.into());
     }
     let book = Book::read(alloc, text)?;
-    linked_report(alloc, LoadOrder::new(book))
+    let mut setup = Setup::new(LoadOrder::new(book));
+    setup.try_link(0)?;
+    report(alloc, &setup.link())
 }
 
 // What `linkbook` prints, or want of memory.

@@ -1,7 +1,6 @@
 -- The names of a lawful catalogue fit in the buffers that they are copied to.
 use Rattle.std.proofs.Common.{◌≡◌, ℕ, zero, suc, false, ltb, List, [], ◌∷◌, length, take, drop, IfSome, Some, None, Option, Result, unwrap_or, refl, ap, arith}
-use Rattle.std.specs.Option.{option_map, UnwrapsOrElse}
-use Rattle.arrayvec.specs.ArrayVec.{ArrayVec}
+use Rattle.std.specs.Option.{option_map}
 use Rattle.std.specs.Result as results
 use Rattle.std.specs.List.{AllByRecursion, slice_get}
 use Rattle.std.proofs.lemmas.List.{take_at}
@@ -48,18 +47,22 @@ module _ (c : List Object) (o k : ℕ) (h : Lawful c) where
 pub version_at : (c : List Object) (o k : ℕ) → reference_version c o k ≡ (reference_at c o k).version
 version_at c o k = led_at (object c o).references k no_reference (λ r. r.version) refl
 
--- a name asked for with a buffer of 255 bytes, and the vector that showed the buffer
-module _ (out out' bytes : List ℕ) (ans : Result (Option ℕ) Refusal) (room : length out ≡ 255) (same : bytes ≡ out') where
-  pub copied_back :
-      (v : Option Name) → LawfulIfTold v → ans ≡ name_answer v (length out) → out' ≡ name_buffer v out →
-      option_map (λ n. take n bytes) (results.result_unwrap_or ans None) ≡ v
-  copied_back None h p q = rw p
-  copied_back (Some n) h p q =
-      let e : ltb (length out) (length n) ≡ false = grind (arith, nat_tests) in
-      rw (same, p, q, e) (ap Some (take_at n (drop (length n) out) (length n) refl))
+front :
+    (l : Option ℕ) (v : Option Name) (b : List ℕ) → option_map (λ n. take n b) l ≡ v → take (unwrap_or l 0) b ≡ unwrap_or v []
+front None v b e = ap (λ w. unwrap_or w []) e
+front (Some n) v b e = ap (λ w. unwrap_or w []) e
 
--- the bytes of a name, or of none
-pub name_else :
-    (v : Option (ArrayVec ℕ)) (n : ArrayVec ℕ) → UnwrapsOrElse v (λ w. w.items ≡ []) n → n.items ≡ unwrap_or (option_map (λ w. w.items) v) []
-name_else None n u = u
-name_else (Some w) n u = ap (λ (x : ArrayVec ℕ). x.items) u
+-- a name asked for with a buffer of 255 bytes
+module _ (out out' : List ℕ) (ans : Result (Option ℕ) Refusal) (room : length out ≡ 255) where
+  pub copied :
+      (v : Option Name) → LawfulIfTold v → ans ≡ name_answer v (length out) → out' ≡ name_buffer v out →
+      option_map (λ n. take n out') (results.result_unwrap_or ans None) ≡ v
+  copied None h p q = rw p
+  copied (Some n) h p q =
+      let e : ltb (length out) (length n) ≡ false = grind (arith, nat_tests) in
+      rw (p, q, e) (ap Some (take_at n (drop (length n) out) (length n) refl))
+
+  pub copied_front :
+      (v : Option Name) → LawfulIfTold v → ans ≡ name_answer v (length out) → out' ≡ name_buffer v out →
+      take (unwrap_or (results.result_unwrap_or ans None) 0) out' ≡ unwrap_or v []
+  copied_front v h p q = front (results.result_unwrap_or ans None) v out' (copied v h p q)

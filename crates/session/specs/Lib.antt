@@ -6,4 +6,5 @@ pub mod Checks
 pub mod Calls
 pub mod Lines
 pub mod View
+pub mod Tabled
 pub mod Texts

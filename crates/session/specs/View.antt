@@ -34,6 +34,13 @@ pub record Session (S : Type 0) : Type 0 where
 abbrev pub session_of : {S : Type 0} → S → List Object → List ℕ → Tables → Session S
 session_of scope c order t = record { scope = scope; objects = c; state = view c order t }
 
+-- What holds of every session: its objects and its load order are those of its scope, and no open is counted.
+pub record Shows {S : Type 0} (c : List Object) (order : List ℕ) (s : Session S) : Type 0 where
+  pub objects : s.objects ≡ c
+  pub loaded : s.state.linkage.loaded ≡ order
+  pub counts : s.state.counts ≡ replicate (length c) 0
+  pub granted : s.state.granted ≡ 0
+
 -- What holds of a session in set-up until a try at linking is granted: nothing is loaded, started or bound.
 pub record InSetup (s : State) : Type 0 where
   pub root : s.root ≡ None

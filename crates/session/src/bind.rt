@@ -3,7 +3,7 @@ ghost use Rattle.std.specs.Prelude.{◌≡◌};
 ghost use Rattle.elf.specs.Meaning.{reference_at};
 ghost use Rattle.session.specs.Binding.{taken};
 
-use super::reference::{head, name_at, reference, version_at};
+use super::reference::{head, name_to, reference, version_to};
 use catalogue::catalogue::Catalogue;
 use elf::symbol::Wanted;
 use scope::scope::Scope;
@@ -18,11 +18,13 @@ pub fn bind<S: Scope>(scope: &mut S, object: u16, place: usize) -> Option<(u16, 
     if asked.own && asked.protected {
         return Some((object, asked.number));
     }
-    let name = name_at(scope, object, place);
-    let version = version_at(scope, object, place);
+    let mut name = [0; 255];
+    let len = name_to(scope, object, place, &mut name);
+    let mut version = [0; 255];
+    let versioned = version_to(scope, object, place, &mut version);
     let wanted = Wanted {
-        name: name.as_slice(),
-        version: version.as_ref().map(|version| version.as_slice()),
+        name: &name[..len],
+        version: versioned.map(|len| &version[..len]),
     };
     if head(scope, object).symbolic {
         if let Some(symbol) = scope.catalogue().offer(object, wanted) {

@@ -1,22 +1,22 @@
 // The lines of a report, and the line of a refusal.
 ghost use Rattle.std.specs.Prelude.{◌≡◌, ◌+◌, ◌≤◌, ◌++◌, length, take};
 ghost use Rattle.session.specs.Lines.{symbol_fields, render as render_of, refusal_line};
-ghost use Rattle.session.specs.Texts.{line_of};
+ghost use Rattle.session.specs.Texts.{name_of, line_of};
 
+use super::name::Name;
 use super::text::Text;
-use arrayvec::ArrayVec;
 use elf::refusal::Refusal;
 
 // A symbol that an object refers to.
-#[derive(Drop)]
+#[derive(Clone, Copy)]
 pub struct Symbol {
     pub object: u16,
     pub number: u16,
-    pub name: ArrayVec<u8, 255>,
+    pub name: Name,
 }
 
 // A line of a report; a bound symbol has the object and the symbol that it took.
-#[derive(Drop)]
+#[derive(Clone, Copy)]
 pub enum Line {
     Load(u16),
     Init(u16),
@@ -28,13 +28,13 @@ pub enum Line {
 impl Symbol {
     // Adds the symbol's fields to a text: two numbers of 5 digits at most, and the name, each behind a space.
     fn write(&self, text: &mut Text)
-        requires { length text.old + 268 ≤ 320 }
-        ensures value { text.new ≡ text.old ++ symbol_fields self.now.object self.now.number self.now.name.items }
-        ensures length { length text.new ≤ length text.old + 268 }
+        requires { length text.old.bytes + 268 ≤ 320 }
+        ensures value { text.new.bytes ≡ text.old.bytes ++ symbol_fields self.now.object self.now.number (name_of self.now.name) }
+        ensures length { length text.new.bytes ≤ length text.old.bytes + 268 }
     {
         text.number(self.object);
         text.number(self.number);
-        text.field(&self.name);
+        text.field(self.name.bytes());
     }
 }
 
@@ -55,7 +55,7 @@ impl Line {
 
 // The bytes of a line.
 pub fn render(line: &Line) -> Text
-    ensures { result ≡ render_of (line_of line.now) }
+    ensures { result.bytes ≡ render_of (line_of line.now) }
 {
     let mut text = Text::new();
     text.push(line.word());
@@ -74,7 +74,7 @@ pub fn render(line: &Line) -> Text
 
 // The line of a refusal: its number, object and place.
 pub fn refusal_line(refusal: &Refusal) -> Text
-    ensures { result ≡ refusal_line refusal.now }
+    ensures { result.bytes ≡ refusal_line refusal.now }
 {
     let (number, object, place) = refusal.row();
     let mut text = Text::new();

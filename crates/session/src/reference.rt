@@ -1,19 +1,17 @@
 // What a catalogue tells of an object and of a reference, with copies of its names, and the line of its row.
-ghost use Rattle.std.specs.Prelude.{◌≡◌, take};
+ghost use Rattle.std.specs.Prelude.{◌≡◌, ◌≤◌, length, take, IfSome};
 ghost use Rattle.std.specs.Option.{option_map};
-ghost use Rattle.std.specs.Result.{result_unwrap_or};
 ghost use Rattle.elf.specs.Meaning.{object as object_of, reference_at};
 ghost use Rattle.catalogue.specs.Questions.{object_head, reference_head};
 ghost use Rattle.session.specs.Lines.{binding_line};
-ghost use Rattle.session.specs.Texts.{line_of};
+ghost use Rattle.session.specs.Texts.{name_of, line_of};
 ghost use Rattle.session.specs.View.{binding_of};
 
 use super::line::{Line, Symbol};
+use super::name::Name;
 use super::table::Row;
-use arrayvec::ArrayVec;
 use catalogue::catalogue::Catalogue;
 use catalogue::heads::{ObjectHead, ReferenceHead};
-use elf::refusal::Refusal;
 use scope::scope::Scope;
 
 // Whether an object is symbolic, and how long its lists are.
@@ -33,36 +31,50 @@ pub fn reference<S: Scope>(scope: &S, object: u16, place: usize) -> ReferenceHea
         .unwrap_or_default()
 }
 
-// The front of a buffer, as far as the answer says that a name was copied to it.
-fn copied(
-    mut bytes: ArrayVec<u8, 255>,
-    answer: Result<Option<usize>, Refusal>,
-) -> Option<ArrayVec<u8, 255>>
-    ensures { option_map (λ n. n.items) result ≡ option_map (λ n. take n bytes.items) (result_unwrap_or answer None) }
-{
-    let len = answer.unwrap_or(None)?;
-    bytes.truncate(len);
-    Some(bytes)
+impl Name {
+    pub fn bytes(&self) -> &[u8]
+        ensures value { result.now ≡ name_of self.now }
+        ensures length { length result.now ≤ 255 }
+    {
+        &self.bytes[..self.len]
+    }
 }
 
-// A copy of the name of a reference; a lawful name fits in 255 bytes.
-pub fn name_at<S: Scope>(scope: &S, object: u16, place: usize) -> ArrayVec<u8, 255>
-    ensures { result.items ≡ (reference_at (S.Scope.objects scope.now) object place).name }
+// Writes the name of a reference to the front of a buffer, where a lawful name fits, and answers its length.
+pub fn name_to<S: Scope>(scope: &S, object: u16, place: usize, out: &mut [u8; 255]) -> usize
+    ensures name { take result out.new ≡ (reference_at (S.Scope.objects scope.now) object place).name }
+    ensures fits { result ≤ 255 }
 {
-    let mut bytes = ArrayVec::from([0; 255]);
-    let answer = scope.catalogue().reference_name(object, place, &mut bytes);
-    copied(bytes, answer).unwrap_or_default()
-}
-
-// A copy of the version of a reference, unless it has none.
-pub fn version_at<S: Scope>(scope: &S, object: u16, place: usize) -> Option<ArrayVec<u8, 255>>
-    ensures { option_map (λ n. n.items) result ≡ (reference_at (S.Scope.objects scope.now) object place).version }
-{
-    let mut bytes = ArrayVec::from([0; 255]);
-    let answer = scope
+    scope
         .catalogue()
-        .reference_version(object, place, &mut bytes);
-    copied(bytes, answer)
+        .reference_name(object, place, out)
+        .unwrap_or(None)
+        .unwrap_or(0)
+}
+
+// Writes the version of a reference to the front of a buffer, and answers its length, none where it has none.
+pub fn version_to<S: Scope>(
+    scope: &S,
+    object: u16,
+    place: usize,
+    out: &mut [u8; 255],
+) -> Option<usize>
+    ensures version { option_map (λ n. take n out.new) result ≡ (reference_at (S.Scope.objects scope.now) object place).version }
+    ensures fits { IfSome result (λ n. n ≤ 255) }
+{
+    scope
+        .catalogue()
+        .reference_version(object, place, out)
+        .unwrap_or(None)
+}
+
+// A copy of the name of a reference.
+pub fn name_at<S: Scope>(scope: &S, object: u16, place: usize) -> Name
+    ensures { name_of result ≡ (reference_at (S.Scope.objects scope.now) object place).name }
+{
+    let mut bytes = [0; 255];
+    let len = name_to(scope, object, place, &mut bytes);
+    Name { bytes, len }
 }
 
 // The line of a row: an own symbol that took another definition is over.

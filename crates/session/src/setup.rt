@@ -3,12 +3,13 @@ ghost use Rattle.std.specs.Prelude.{◌≡◌, ◌+◌, ◌≤◌, true, [], ◌
 ghost use Rattle.scope.specs.Orders.{LawfulOrder};
 ghost use Rattle.session.specs.State.{initial, is_linked};
 ghost use Rattle.session.specs.Calls.{preload, link};
-ghost use Rattle.session.specs.View.{bare, InSetup};
+ghost use Rattle.session.specs.View.{bare, InSetup, Shows};
 
 use super::join::empty;
 use super::linked::Linked;
 use super::load::load;
 use super::rows::bind_all;
+use super::seen::Seen;
 use super::start::start_order;
 use super::table::Tables;
 use super::walk::new_list;
@@ -32,20 +33,21 @@ fn chained(first: &[u16], then: &[u16]) -> ArrayVec<u16, 5>
 
 // A session that takes preloads and tries to link; clauses see it as a `Session`.
 #[derive(Drop)]
-pub struct Setup<S: Scope> {
+pub struct Setup<S: Seen> {
     scope: S,
     tables: Tables,
 }
 
-impl<S: Scope> Model for Setup<S> {
+impl<S: Seen> Model for Setup<S> {
+    ghost use Rattle.std.specs.Prelude.{◌≤◌, length};
     ghost use Rattle.scope.specs.Orders.{LawfulOrder};
     ghost use Rattle.session.specs.View.{Session, session_of};
 
     ghost Value = { Session S };
 
-    ghost view = { λ s. session_of s.scope (S.Scope.objects s.scope) (S.Scope.order s.scope) s.tables };
+    ghost view = { λ s. session_of s.scope (S.Seen.objects s.scope) (S.Seen.order s.scope) s.tables };
 
-    ghost invariant = { λ s. LawfulOrder (S.Scope.objects s.scope) s.tables.preloads.items };
+    ghost invariant = { λ s. LawfulOrder (S.Seen.objects s.scope) s.tables.preloads.items × (length s.tables.preloads.items ≤ 4) };
 }
 
 impl<S: Scope> Setup<S> {
@@ -70,7 +72,10 @@ impl<S: Scope> Setup<S> {
         ensures objects { self.new.objects ≡ self.old.objects }
         ensures answer { bare result ≡ (preload self.old.objects self.old.state object).answered }
         ensures next { self.new.state ≡ (preload self.old.objects self.old.state object).next }
+        ensures was { Shows (S.Scope.objects self.old.scope) (S.Scope.order self.old.scope) self.old }
+        ensures shown { Shows (S.Scope.objects self.new.scope) (S.Scope.order self.new.scope) self.new }
         ensures preloads { LawfulOrder self.new.objects self.new.state.preloads }
+        ensures few { length self.new.state.preloads ≤ 4 }
         ensures setup { InSetup self.new.state }
     {
         check_known(self.scope.catalogue(), object)?;
@@ -95,6 +100,10 @@ impl<S: Scope> Setup<S> {
         ensures scope { S.Scope.objects self.new.scope ≡ S.Scope.objects self.old.scope }
         ensures answer { bare result ≡ (link self.old.objects self.old.state root).answered }
         ensures next { self.new.state ≡ (link self.old.objects self.old.state root).next }
+        ensures was { Shows (S.Scope.objects self.old.scope) (S.Scope.order self.old.scope) self.old }
+        ensures shown { Shows (S.Scope.objects self.new.scope) (S.Scope.order self.new.scope) self.new }
+        ensures preloads { LawfulOrder self.new.objects self.new.state.preloads }
+        ensures few { length self.new.state.preloads ≤ 4 }
     {
         check_known(self.scope.catalogue(), root)?;
         let list = new_list(&self.scope, &chained(&[root], &self.tables.preloads));
@@ -109,7 +118,8 @@ impl<S: Scope> Setup<S> {
     // The move after a granted try.
     pub fn link(self) -> Linked<S>
         requires { is_linked self.state ≡ true }
-        ensures { result ≡ self }
+        ensures same { result ≡ self }
+        ensures shown { Shows (S.Scope.objects result.scope) (S.Scope.order result.scope) result }
     {
         let Setup { scope, tables } = self;
         Linked { scope, tables }

@@ -18,8 +18,8 @@ pub struct Row {
 // The bindings recorded, of which clauses see the list; the first `used` rows count.
 #[derive(Drop)]
 pub struct Rows {
-    rows: [Row; 4096],
-    used: usize,
+    pub rows: [Row; 4096],
+    pub used: usize,
 }
 
 impl Model for Rows {

@@ -6,8 +6,8 @@ use Rattle.session.specs.declared.table.Tables.{Tables}
 use Rattle.session.proofs.Reports.{row_at}
 use Rattle.session.proofs.linked.Linked.line_at.Goals as goal
 
-pub returns : goal.returns
-returns g c =
+pub returns-clause-line : goal.returns-clause-line
+returns-clause-line g c =
     let scope = c.self.inside.scope in
     let t : Tables = c.self.inside.tables in
     let k : ℕ = c.args.n - length c.order-loaded.result.now - c.len.result in

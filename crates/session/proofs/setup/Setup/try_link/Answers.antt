@@ -2,11 +2,11 @@ use Rattle.std.proofs.Common.{◌≡◌, ℕ, ◌+◌, ◌≤◌, List, [], ◌�
 use Rattle.std.proofs.lemmas.Result.{err_from_is_err_and}
 use Rattle.elf.specs.Meaning.{Object}
 use Rattle.elf.specs.Refusals.{answer}
-use Rattle.scope.specs.Orders.{unknown}
+use Rattle.scope.specs.Orders.{LawfulOrder, unknown}
 use Rattle.session.specs.Binding.{bindings_of_all}
 use Rattle.session.specs.Calls.{link, link_list}
 use Rattle.session.specs.Checks.{batch_refusal, references_of_all}
-use Rattle.session.specs.View.{view, recorded, bare, InSetup}
+use Rattle.session.specs.View.{view, recorded, bare, InSetup, Shows}
 use Rattle.session.specs.Walks.{new_list, start_order}
 use Rattle.session.specs.declared.table.Tables.{Tables}
 use Rattle.session.proofs.Firsts.{granted}
@@ -36,6 +36,10 @@ returns-in_err-load g c =
       scope = c.load.ensures.objects ∙ ap (λ v. g.S.Scope.objects v.scope) c.self.view_is;
       answer = ap bare p.1 ∙ done.0;
       next = ap (λ (cs : List Object). view cs order' t) c.load.ensures.objects ∙ done.1;
+      was = subst (λ v. Shows (g.S.Scope.objects v.scope) (g.S.Scope.order v.scope) v) c.self.view_is (record { objects = refl; loaded = refl; counts = refl; granted = refl });
+      shown = record { objects = refl; loaded = refl; counts = refl; granted = refl };
+      preloads = subst (λ (cs : List Object). LawfulOrder cs t.preloads.items) (sym c.load.ensures.objects) c.self.invariant.0;
+      few = c.self.invariant.1;
     }
 
 pub bind_all-requires : goal.bind_all-requires
@@ -87,4 +91,8 @@ returns g c =
       scope = kept ∙ ap (λ v. g.S.Scope.objects v.scope) c.self.view_is;
       answer = done.0;
       next = ap (λ (cs : List Object). view cs order' t') kept ∙ done.1;
+      was = subst (λ v. Shows (g.S.Scope.objects v.scope) (g.S.Scope.order v.scope) v) c.self.view_is (record { objects = refl; loaded = refl; counts = refl; granted = refl });
+      shown = record { objects = refl; loaded = refl; counts = refl; granted = refl };
+      preloads = subst (λ (cs : List Object). LawfulOrder cs t.preloads.items) (sym kept) c.self.invariant.0;
+      few = c.self.invariant.1;
     }
