@@ -2,7 +2,8 @@
 ghost use Rattle.std.specs.Prelude.{◌≡◌, ◌≤◌, length, take, IfSome};
 ghost use Rattle.std.specs.Option.{option_map};
 ghost use Rattle.elf.specs.Meaning.{object as object_of, reference_at};
-ghost use Rattle.catalogue.specs.Questions.{object_head, reference_head};
+ghost use Rattle.catalogue.specs.Buffers.{name_buffer};
+ghost use Rattle.catalogue.specs.Questions.{asked_at, object_head, reference_head, reference_version};
 ghost use Rattle.session.specs.Lines.{binding_line};
 ghost use Rattle.session.specs.Texts.{name_of, line_of};
 ghost use Rattle.session.specs.View.{binding_of};
@@ -31,6 +32,7 @@ pub fn reference<S: Scope>(scope: &S, object: u16, place: usize) -> ReferenceHea
         .unwrap_or_default()
 }
 
+// Here and not beside the struct, since what its clause cites names the struct.
 impl Name {
     pub fn bytes(&self) -> &[u8]
         ensures value { result.now ≡ name_of self.now }
@@ -43,6 +45,7 @@ impl Name {
 // Writes the name of a reference to the front of a buffer, where a lawful name fits, and answers its length.
 pub fn name_to<S: Scope>(scope: &S, object: u16, place: usize, out: &mut [u8; 255]) -> usize
     ensures name { take result out.new ≡ (reference_at (S.Scope.objects scope.now) object place).name }
+    ensures buffer { out.new ≡ name_buffer (asked_at (S.Scope.objects scope.now) object (λ o. o.references) place (λ x. x.name)) out.old }
     ensures fits { result ≤ 255 }
 {
     scope
@@ -60,6 +63,7 @@ pub fn version_to<S: Scope>(
     out: &mut [u8; 255],
 ) -> Option<usize>
     ensures version { option_map (λ n. take n out.new) result ≡ (reference_at (S.Scope.objects scope.now) object place).version }
+    ensures buffer { out.new ≡ name_buffer (reference_version (S.Scope.objects scope.now) object place) out.old }
     ensures fits { IfSome result (λ n. n ≤ 255) }
 {
     scope
