@@ -11,3 +11,4 @@ pub mod Rooms
 pub mod Checking
 pub mod Linking
 pub mod Reports
+pub mod Spares

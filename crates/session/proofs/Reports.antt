@@ -3,10 +3,11 @@ use Rattle.std.proofs.Common.{◌≡◌, ℕ, zero, suc, ◌+◌, ◌<◌, List,
 use lib.ListN.{length-map}
 use Rattle.std.specs.Option.{option_map}
 use Rattle.std.specs.List.{slice_get}
+use Rattle.std.proofs.lemmas.List.{append_assoc}
 use Rattle.std.proofs.lemmas.Option.{slice_get-map, slice_get-get_or}
 use Rattle.elf.specs.Meaning.{Object}
 use Rattle.session.specs.declared.table.Row.{Row}
-use Rattle.session.specs.Lines.{Line, load, init, binding_line}
+use Rattle.session.specs.Lines.{Line, load, init, binding_line, written}
 use Rattle.session.specs.View.{binding_of, recorded}
 
 nth_behind : {A : Type 0} (xs ys : List A) (i k : ℕ) → i ≡ length xs + k → slice_get (xs ++ ys) i ≡ slice_get ys k
@@ -27,3 +28,8 @@ row_at c loaded started rows n k r e l p =
     ∙ slice_get-map binding_line (recorded c rows) k
     ∙ ap (option_map binding_line) (slice_get-map (binding_of c) rows k)
     ∙ ap (λ x. option_map binding_line (option_map (binding_of c) x)) (slice_get-get_or rows k r l))
+
+-- a word and three fields, one put behind another, and a line feed
+pub three_written : (word a b c : List ℕ) → (((word ++ a) ++ b) ++ c) ++ (10 ∷ []) ≡ written word (a ++ (b ++ c))
+three_written word a b c =
+    ap (λ l. l ++ (10 ∷ [])) (append_assoc (word ++ a) b c ∙ append_assoc word a (b ++ c)) ∙ append_assoc word (a ++ (b ++ c)) (10 ∷ [])

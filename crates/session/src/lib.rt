@@ -14,5 +14,7 @@ mod seen;
 pub mod setup;
 mod start;
 pub mod table;
+#[cfg(test)]
+mod tests;
 pub mod text;
 mod walk;

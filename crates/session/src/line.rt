@@ -1,6 +1,7 @@
 // The lines of a report, and the line of a refusal.
 ghost use Rattle.std.specs.Prelude.{◌≡◌, ◌+◌, ◌≤◌, ◌++◌, length, take};
 ghost use Rattle.session.specs.Lines.{symbol_fields, render as render_of, refusal_line};
+ghost use Rattle.session.specs.Tabled.{blank, spare_behind};
 ghost use Rattle.session.specs.Texts.{name_of, line_of};
 
 use super::name::Name;
@@ -27,9 +28,11 @@ pub enum Line {
 
 impl Symbol {
     // Adds the symbol's fields to a text: two numbers of 5 digits at most, and the name, each behind a space.
+    #[tactic(auto, using(crate::proofs::Spares::drop_twice))]
     fn write(&self, text: &mut Text)
         requires { length text.old.bytes + 268 ≤ 320 }
         ensures value { text.new.bytes ≡ text.old.bytes ++ symbol_fields self.now.object self.now.number (name_of self.now.name) }
+        ensures spare { text.new.spare ≡ spare_behind text.old text.new.bytes }
         ensures length { length text.new.bytes ≤ length text.old.bytes + 268 }
     {
         text.number(self.object);
@@ -54,8 +57,10 @@ impl Line {
 }
 
 // The bytes of a line.
+#[tactic(auto, using(crate::proofs::Reports::three_written))]
 pub fn render(line: &Line) -> Text
-    ensures { result.bytes ≡ render_of (line_of line.now) }
+    ensures bytes { result.bytes ≡ render_of (line_of line.now) }
+    ensures spare { result.spare ≡ spare_behind blank result.bytes }
 {
     let mut text = Text::new();
     text.push(line.word());
@@ -74,7 +79,8 @@ pub fn render(line: &Line) -> Text
 
 // The line of a refusal: its number, object and place.
 pub fn refusal_line(refusal: &Refusal) -> Text
-    ensures { result.bytes ≡ refusal_line refusal.now }
+    ensures bytes { result.bytes ≡ refusal_line refusal.now }
+    ensures spare { result.spare ≡ spare_behind blank result.bytes }
 {
     let (number, object, place) = refusal.row();
     let mut text = Text::new();

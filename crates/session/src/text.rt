@@ -2,6 +2,7 @@
 ghost use Rattle.std.specs.Prelude.{◌≡◌, ℕ, List, ◌+◌, ◌<◌, ◌≤◌, [], ◌∷◌, ◌++◌, length};
 ghost use Rattle.catalogue.specs.Buffers.{write_answer, written_front};
 ghost use Rattle.session.specs.Lines.{name_field};
+ghost use Rattle.session.specs.Tabled.{blank, spare_behind};
 
 use catalogue::name::write_front;
 use elf::refusal::Refusal;
@@ -37,7 +38,8 @@ impl Model for Text {
 
 impl Text {
     pub fn new() -> Text
-        ensures { result.bytes ≡ [] }
+        ensures bytes { result.bytes ≡ [] }
+        ensures spare { result.spare ≡ blank.spare }
     {
         Text {
             bytes: [0; 320],
@@ -63,7 +65,8 @@ impl Text {
     // More bytes at the end.
     pub fn push(&mut self, more: &[u8])
         requires { length self.old.bytes + length more.now ≤ 320 }
-        ensures { self.new.bytes ≡ self.old.bytes ++ more.now }
+        ensures bytes { self.new.bytes ≡ self.old.bytes ++ more.now }
+        ensures spare { self.new.spare ≡ spare_behind self.old self.new.bytes }
     {
         let end = self.len + more.len();
         self.bytes[self.len..end].copy_from_slice(more);
@@ -73,7 +76,8 @@ impl Text {
     // A space and then a name.
     pub fn field(&mut self, name: &[u8])
         requires { length self.old.bytes + length name.now < 320 }
-        ensures { self.new.bytes ≡ self.old.bytes ++ name_field name.now }
+        ensures bytes { self.new.bytes ≡ self.old.bytes ++ name_field name.now }
+        ensures spare { self.new.spare ≡ spare_behind self.old self.new.bytes }
     {
         self.push(b" ");
         self.push(name);
@@ -83,6 +87,7 @@ impl Text {
     pub fn number<N: Integer>(&mut self, n: N)
         requires { length self.old.bytes + N.MAX_STR_LEN < 320 }
         ensures value { self.new.bytes ≡ self.old.bytes ++ (32 ∷ N.text n) }
+        ensures spare { self.new.spare ≡ spare_behind self.old self.new.bytes }
         ensures length { length self.new.bytes ≤ length self.old.bytes + N.MAX_STR_LEN + 1 }
     {
         self.field(Buffer::new().format(n).as_bytes());
